@@ -1,0 +1,151 @@
+-- What the code's formulas and tables come to.
+-- Assumes nothing.
+use Prim.Native.Nat.{ℕ, zero, suc, _+_, _-_, _*_, _/_, _%_, _≤_, _<_}
+use mathlib.Core.Path.{_≡_, refl, ap, sym, _∙_, subst}
+use mathlib.Core.Bool.{Bool, true, false, cond}
+use mathlib.Core.List.{List, [], _∷_}
+use lib.Dec.{lit≤}
+use lib.ListN.{getD, List·getD-eq-default}
+use native.Mathlib.Omega.{arith}
+use native.Mathlib.Decide.{decLt}
+use Rattle.gregorian.specs.Calendar.{total, leap, leapDay, yearLength, monthLength, dayNumber, lastYear, lastDay, Exists, isDate, dateOf, date, Within}
+use Rattle.gregorian.proofs.Total.{total-next, total-mono, upto}
+use Rattle.gregorian.proofs.Years.{years, years-is}
+use Rattle.gregorian.proofs.Laws.{is-date, unique, date-exists, number-of-date, number-high, year-of-months}
+
+pub leap-is : (y : ℕ) (r b : Bool) → r ≡ leap y → r ≡ b → leapDay y ≡ cond b 1 0
+unfolding leapDay
+leap-is y r b e q = ap (λ (t : Bool). cond t 1 0) (sym e ∙ q)
+
+leap-small : (y : ℕ) → leapDay y ≤ 1
+unfolding leapDay
+leap-small y = small (leap y)
+  where
+    small : (b : Bool) → cond b 1 0 ≤ 1
+    small true = lit≤ tt
+    small false = lit≤ tt
+
+-- The two tables.
+pub february : (y m : ℕ) → m ≡ 2 → monthLength y m ≡ 28 + leapDay y
+unfolding monthLength
+february y m e = ap (monthLength y) e
+
+abbrev lengths : List ℕ
+lengths = 0 ∷ 31 ∷ 28 ∷ 31 ∷ 30 ∷ 31 ∷ 30 ∷ 31 ∷ 31 ∷ 30 ∷ 31 ∷ 30 ∷ 31 ∷ []
+
+pub other-month : (y m : ℕ) → m < 13 → (m ≡ 2 → ⊥) → getD lengths m 0 ≡ monthLength y m
+unfolding monthLength
+other-month y m h = upto (λ (m : ℕ). (m ≡ 2 → ⊥) → getD lengths m 0 ≡ monthLength y m) 13 (omega arith) m h
+
+pub no-month : (y m : ℕ) → 13 ≤ m → monthLength y m ≡ 0
+unfolding monthLength
+no-month y m h =
+    List·getD-eq-default (0 ∷ 31 ∷ (28 + leapDay y) ∷ 31 ∷ 30 ∷ 31 ∷ 30 ∷ 31 ∷ 31 ∷ 30 ∷ 31 ∷ 30 ∷ 31 ∷ []) 0 h
+
+abbrev starts : List ℕ
+starts = 0 ∷ 31 ∷ 59 ∷ 90 ∷ 120 ∷ 151 ∷ 181 ∷ 212 ∷ 243 ∷ 273 ∷ 304 ∷ 334 ∷ 365 ∷ []
+
+pub before-march : (y k : ℕ) → k < 2 → getD starts k 0 ≡ total (monthLength y) k
+unfolding total monthLength
+before-march y k h = upto (λ (k : ℕ). getD starts k 0 ≡ total (monthLength y) k) 2 (omega arith) k h
+
+pub from-march : (y k : ℕ) → 2 ≤ k → k < 13 → getD starts k 0 + leapDay y ≡ total (monthLength y) k
+unfolding total monthLength
+from-march y k l h =
+    upto (λ (k : ℕ). 2 ≤ k → getD starts k 0 + leapDay y ≡ total (monthLength y) k) 13 (omega arith) k h l
+
+pub starts-small : (k : ℕ) → k < 13 → getD starts k 0 < 366
+starts-small k h = upto (λ (k : ℕ). getD starts k 0 < 366) 13 (omega arith) k h
+
+-- Of a guess k that is right or one too low, a test of the sum up to the next tells which.
+below-most : (f : ℕ → ℕ) (most n k : ℕ) → n ≤ total f most → total f k < n → k < most
+below-most f most n k h l = elim (decLt k most) [
+  | yes a ↦ a
+  | no a ↦ let b = total-mono f most k (omega arith) in absurd (omega (arith, b))
+]
+
+right : (f : ℕ → ℕ) (most n k : ℕ) → n ≤ total f most → total f k < n → n ≤ total f (k + 1) → Within f most n (k + 1)
+right f most n k h l u =
+    let e : total f (k + 1 - 1) ≡ total f k = ap (total f) (omega arith) in
+    let b = below-most f most n k h l in
+    record { low = omega arith; high = omega (arith, b); starts = omega arith; ends = u }
+
+one-low : (f : ℕ → ℕ) (most n k : ℕ) → n ≤ total f most → total f (k + 1) < n → n ≤ total f (k + 2) → Within f most n (k + 2)
+one-low f most n k h l u =
+    let e : k + 1 + 1 ≡ k + 2 = omega arith in
+    subst (Within f most n) e (right f most n (k + 1) h l (subst (λ (i : ℕ). n ≤ total f i) (sym e) u))
+
+-- The year by the mean length of a year.
+abbrev guessYear : ℕ → ℕ
+guessYear n = (n - 1) * 400 / 146097
+
+year-low : (n k : ℕ) → 1 ≤ n → k ≡ guessYear n → years k < n
+year-low n k h e = omega arith
+
+year-high : (n k : ℕ) → 1 ≤ n → k ≡ guessYear n → n ≤ years (k + 2)
+year-high n k h e = omega arith
+
+in-years : (n : ℕ) → n ≤ lastDay → n ≤ total yearLength lastYear
+in-years n h = subst (λ (t : ℕ). n ≤ t) (sym (years-is lastYear)) h
+
+pub year-one-low : (n r : ℕ) → (1 ≤ n) × (n ≤ lastDay) → r ≡ total yearLength (guessYear n + 1) → r < n → Within yearLength lastYear n (guessYear n + 2)
+year-one-low n r h e l =
+    one-low yearLength lastYear n (guessYear n) (in-years n (h .1)) (omega arith)
+    (subst (λ (t : ℕ). n ≤ t) (sym (years-is (guessYear n + 2))) (year-high n (guessYear n) (h .0) refl))
+
+pub year-right : (n r : ℕ) → (1 ≤ n) × (n ≤ lastDay) → r ≡ total yearLength (guessYear n + 1) → n ≤ r → Within yearLength lastYear n (guessYear n + 1)
+year-right n r h e l =
+    right yearLength lastYear n (guessYear n) (in-years n (h .1))
+    (subst (λ (t : ℕ). t < n) (sym (years-is (guessYear n))) (year-low n (guessYear n) (h .0) refl)) (omega arith)
+
+-- The month by the length of a long month: the first k months have about 31 days each.
+abbrev guessMonth : ℕ → ℕ
+guessMonth n = (n - 1) / 31
+
+months-near : (y k : ℕ) → k < 13 → (total (monthLength y) k ≤ 31 * k) × (31 * k ≤ total (monthLength y) k + 7)
+unfolding total monthLength
+months-near y k h =
+    let l = leap-small y in
+    upto (λ (k : ℕ). (total (monthLength y) k ≤ 31 * k) × (31 * k ≤ total (monthLength y) k + 7)) 13 (omega arith) k h
+
+year-small : (y : ℕ) → yearLength y ≤ 366
+unfolding yearLength
+year-small y = let l = leap-small y in omega arith
+
+pub guess-small : (y n : ℕ) → (1 ≤ n) × (n ≤ yearLength y) → guessMonth n + 1 ≤ 12
+guess-small y n h = let l = year-small y in omega arith
+
+in-months : (y n : ℕ) → n ≤ yearLength y → n ≤ total (monthLength y) 12
+in-months y n h = omega (arith, year-of-months y)
+
+pub month-one-low : (y n r : ℕ) → (1 ≤ n) × (n ≤ yearLength y) → r ≡ total (monthLength y) (guessMonth n + 1) → r < n → Within (monthLength y) 12 n (guessMonth n + 2)
+month-one-low y n r h e l =
+    let b = below-most (monthLength y) 12 n (guessMonth n + 1) (in-months y n (h .1)) (omega arith) in
+    let a = months-near y (guessMonth n + 2) (omega (arith, b)) in
+    one-low (monthLength y) 12 n (guessMonth n) (in-months y n (h .1)) (omega arith) (omega (arith, a))
+
+pub month-right : (y n r : ℕ) → (1 ≤ n) × (n ≤ yearLength y) → r ≡ total (monthLength y) (guessMonth n + 1) → n ≤ r → Within (monthLength y) 12 n (guessMonth n + 1)
+month-right y n r h e l =
+    let a = months-near y (guessMonth n) (omega (arith, guess-small y n h)) in
+    right (monthLength y) 12 n (guessMonth n) (in-months y n (h .1)) (omega (arith, a)) (omega arith)
+
+-- The parts that are found make the date, and the parts of a date its number.
+pub rest : (n y a : ℕ) → a ≡ total yearLength (y - 1) → Within yearLength lastYear n y → (1 ≤ n - a) × (n - a ≤ yearLength y)
+rest n y a q w = omega (arith, total-next yearLength y (w .low))
+
+pub date-parts : (n y m a b : ℕ) → (1 ≤ n) × (n ≤ lastDay) → a ≡ total yearLength (y - 1) → b ≡ total (monthLength y) (m - 1) → Within yearLength lastYear n y → Within (monthLength y) 12 (n - a) m → date y m (n - a - b) ≡ dateOf n
+unfolding dayNumber
+date-parts n y m a b h p q wy wm =
+    let k = wy .starts in
+    let l = wm .starts in
+    let e = total-next (monthLength y) m (wm .low) in
+    let d : Exists y m (n - a - b) =
+    record { y-low = wy .low; m-low = wm .low; m-high = wm .high; d-low = omega (arith, l); d-high = omega (arith, e) } in
+    let g : dayNumber y m (n - a - b) ≡ n = omega (arith, k, l) in
+    unique (date y m (n - a - b)) (dateOf n) d (date-exists n (h .0)) (g ∙ sym (number-of-date n (h .0)))
+
+pub number-parts : (y m d a b : ℕ) → isDate y m d ≡ true → a ≡ total yearLength (y - 1) → b ≡ total (monthLength y) (m - 1) → (a + (b + d) ≡ dayNumber y m d) × (dayNumber y m d ≤ lastDay)
+unfolding dayNumber
+number-parts y m d a b h p q =
+    let g = is-date y m d h in
+    (omega arith, number-high y m d (g .exists) (g .y-high))

@@ -1,0 +1,38 @@
+use native.Mathlib.Omega.{arith}
+use Rattle.gregorian.proofs.Laws.{is-date}
+use Rattle.gregorian.proofs.Formulas.{number-parts}
+use Rattle.gregorian.proofs.day_number.Statement.{statement}
+use Rattle.gregorian.proofs.day_number.Tie as tie
+
+sub-days-in-years : tie.Need-sub-days-in-years
+sub-days-in-years c = omega (arith, is-date _ _ _ (c .pre))
+
+days-in-years-requires : tie.Need-days-in-years-requires
+days-in-years-requires c κs = omega (arith, is-date _ _ _ (c .pre))
+
+sub-days-in-months : tie.Need-sub-days-in-months
+sub-days-in-months c = omega (arith, is-date _ _ _ (c .before .pre))
+
+days-in-months-requires : tie.Need-days-in-months-requires
+days-in-months-requires c κs = omega (arith, is-date _ _ _ (c .before .pre))
+
+add-result : tie.Need-add-result
+add-result c = omega (arith, number-parts (c .before .before .args .year) (c .before .before .args .month) (c .before .before .args .day) (c .before .days-in-years .result) (c .days-in-months .result) (c .before .before .pre) (c .before .days-in-years .ensures) (c .days-in-months .ensures))
+
+add-result-2 : tie.Need-add-result-2
+add-result-2 c = omega (arith, number-parts (c .before .before .args .year) (c .before .before .args .month) (c .before .before .args .day) (c .before .days-in-years .result) (c .days-in-months .result) (c .before .before .pre) (c .before .days-in-years .ensures) (c .days-in-months .ensures))
+
+returns : tie.Need-returns
+returns c = number-parts (c .before .before .args .year) (c .before .before .args .month) (c .before .before .args .day) (c .before .days-in-years .result) (c .days-in-months .result) (c .before .before .pre) (c .before .days-in-years .ensures) (c .days-in-months .ensures) .0
+
+pub day-number-spec : {M : Type 1} → statement M
+day-number-spec =
+    tie.close
+    (tie.spec
+    sub-days-in-years
+    days-in-years-requires
+    sub-days-in-months
+    days-in-months-requires
+    add-result
+    add-result-2
+    returns)

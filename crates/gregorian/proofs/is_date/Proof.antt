@@ -1,0 +1,39 @@
+use mathlib.Core.Path.{ap}
+use lib.Dec.{leb}
+use borrow.Author.Tests.{lt-leb, le-leb}
+use Rattle.gregorian.specs.Calendar.{isDate}
+use borrow.Author.Needs.{needs}
+use Rattle.gregorian.proofs.is_date.Statement.{statement}
+use Rattle.gregorian.proofs.is_date.Tie as tie
+
+returns : tie.Need-returns
+unfolding isDate
+returns c = simp (lt-leb _ _ (c .if1 .taken))
+
+returns-2 : tie.Need-returns-2
+unfolding isDate
+returns-2 c = simp (le-leb _ _ (c .before .if1 .left), lt-leb _ _ (c .if2 .taken))
+
+returns-3 : tie.Need-returns-3
+unfolding isDate
+returns-3 c = simp (le-leb _ _ (c .before .before .if1 .left), le-leb _ _ (c .before .if2 .left), lt-leb _ _ (c .if3 .taken))
+
+returns-4 : tie.Need-returns-4
+unfolding isDate
+returns-4 c = simp (le-leb _ _ (c .before .before .before .if1 .left), le-leb _ _ (c .before .before .if2 .left), le-leb _ _ (c .before .if3 .left), lt-leb _ _ (c .if4 .taken))
+
+returns-5 : tie.Need-returns-5
+unfolding isDate
+returns-5 c = simp (le-leb _ _ (c .before .before .before .before .if1 .left), le-leb _ _ (c .before .before .before .if2 .left), le-leb _ _ (c .before .before .if3 .left), le-leb _ _ (c .before .if4 .left), lt-leb _ _ (c .if5 .taken))
+
+days-in-month-requires : tie.Need-days-in-month-requires
+days-in-month-requires c κs = search needs
+
+returns-6 : tie.Need-returns-6
+unfolding isDate
+returns-6 c = simp (le-leb _ _ (c .before .before .before .before .before .if1 .left), le-leb _ _ (c .before .before .before .before .if2 .left), le-leb _ _ (c .before .before .before .if3 .left), le-leb _ _ (c .before .before .if4 .left), le-leb _ _ (c .before .if5 .left)) (ap (leb (c .before .before .before .before .before .before .args .day)) (c .days-in-month .ensures))
+
+pub is-date-spec : {M : Type 1} → statement M
+is-date-spec =
+    tie.close
+    (tie.spec returns returns-2 returns-3 returns-4 returns-5 days-in-month-requires returns-6)

@@ -1,0 +1,92 @@
+-- The Gregorian calendar from first principles, extended without end: docs/SCOPE.md [calendar], [date], [weekday-numbers].
+-- Assumes nothing.
+use Prim.Native.Nat.{ℕ, zero, suc, _+_, _-_, _*_, _%_, _≤_, _<_}
+use mathlib.Core.Path.{_≡_}
+use mathlib.Core.Bool.{Bool, true, false, cond, _&&_}
+use mathlib.Core.List.{List, [], _∷_}
+use lib.Dec.{ltb, leb, eqb}
+use lib.ListN.{getD}
+use Rattle.gregorian.specs.declared.Date.{Date}
+
+-- A year is leap if 4 divides it; of the years that 100 divides, only if 400 does.
+unfoldable pub leap : ℕ → Bool
+leap y = cond (eqb (y % 100) 0) (eqb (y % 400) 0) (eqb (y % 4) 0)
+
+-- the day that a leap year has more
+unfoldable pub leapDay : ℕ → ℕ
+leapDay y = cond (leap y) 1 0
+
+unfoldable pub yearLength : ℕ → ℕ
+yearLength y = 365 + leapDay y
+
+-- The length of month m of year y, 1 for January; 0 where there is no such month.
+unfoldable pub monthLength : ℕ → ℕ → ℕ
+monthLength y m = getD (0 ∷ 31 ∷ (28 + leapDay y) ∷ 31 ∷ 30 ∷ 31 ∷ 30 ∷ 31 ∷ 31 ∷ 30 ∷ 31 ∷ 30 ∷ 31 ∷ []) m 0
+
+-- f 1 + f 2 + .. + f n
+unfoldable pub total : (ℕ → ℕ) → ℕ → ℕ
+total f zero = 0
+total f (suc n) = total f n + f (suc n)
+
+-- The day number: the days of the years before y, of the months before m, and d. 0001-01-01 is 1, as chrono's num_days_from_ce.
+unfoldable pub dayNumber : ℕ → ℕ → ℕ → ℕ
+dayNumber y m d = total yearLength (y - 1) + (total (monthLength y) (m - 1) + d)
+
+-- the last year of the calls, and the day number of its last day
+abbrev pub lastYear : ℕ
+lastYear = 9999
+
+abbrev pub lastDay : ℕ
+lastDay = 3652059
+
+-- day d of month m of year y exists, in any year from 1 on
+pub record Exists (y m d : ℕ) : Type 0 where
+  pub y-low : 1 ≤ y
+  pub m-low : 1 ≤ m
+  pub m-high : m ≤ 12
+  pub d-low : 1 ≤ d
+  pub d-high : d ≤ monthLength y m
+
+-- A triple is a date if it exists in years 1 to 9999; as facts, and as a test.
+pub record IsDate (y m d : ℕ) : Type 0 where
+  pub exists : Exists y m d
+  pub y-high : y ≤ lastYear
+
+unfoldable pub isDate : ℕ → ℕ → ℕ → Bool
+isDate y m d = leb 1 y && leb y lastYear && leb 1 m && leb m 12 && leb 1 d && leb d (monthLength y m)
+
+abbrev pub date : ℕ → ℕ → ℕ → Date
+date y m d = record { year = y; month = m; day = d }
+
+-- The day after: the next day of the month, or else the first of the next month, or else the first of the next year.
+unfoldable pub dayAfter : Date → Date
+dayAfter t =
+    cond (ltb (t .day) (monthLength (t .year) (t .month)))
+    (date (t .year) (t .month) (t .day + 1))
+    (cond (ltb (t .month) 12) (date (t .year) (t .month + 1) 1) (date (t .year + 1) 1 1))
+
+-- The date of a day number: day 1 is 0001-01-01, and each next number is the day after.
+unfoldable pub dateOf : ℕ → Date
+dateOf zero = date 0 12 31
+dateOf (suc n) = dayAfter (dateOf n)
+
+-- the weekday after w: 0 Monday to 6 Sunday, then Monday again
+unfoldable pub nextWeekday : ℕ → ℕ
+nextWeekday w = cond (eqb w 6) 0 (w + 1)
+
+-- What it is to give each day number its weekday: 1 January 2001 is a Monday, and each next day has the next weekday.
+pub record Weekdays (f : ℕ → ℕ) : Type 0 where
+  pub range : (n : ℕ) → f n ≤ 6
+  pub monday : f (dayNumber 2001 1 1) ≡ 0
+  pub next : (n : ℕ) → f (n + 1) ≡ nextWeekday (f n)
+
+-- The weekday of a day number. This is the one function of `Weekdays`: proofs/Laws.antt, `weekdays` and `only-weekdays`.
+unfoldable pub weekdayOf : ℕ → ℕ
+weekdayOf n = (n + 6) % 7
+
+-- of parts of lengths f 1, f 2, .., f most, laid end to end, number k is the part that holds place n
+pub record Within (f : ℕ → ℕ) (most n k : ℕ) : Type 0 where
+  pub low : 1 ≤ k
+  pub high : k ≤ most
+  pub starts : total f (k - 1) < n
+  pub ends : n ≤ total f k

@@ -1,0 +1,142 @@
+// The Gregorian calendar: leap years, month lengths, dates, day numbers and weekdays, in closed
+// arithmetic. A date inside the library is its day number, a u32: 0001-01-01 is 1.
+ghost use mathlib.Core.Path.{_≡_};
+ghost use mathlib.Core.Bool.{true};
+ghost use Prim.Native.Nat.{_≤_};
+ghost use Rattle.gregorian.specs.Calendar.{leap, monthLength, yearLength, total, dayNumber, lastYear, lastDay, isDate, dateOf, weekdayOf, Within};
+
+pub const LAST_YEAR: u32 = 9999;
+
+// The day number of 9999-12-31.
+pub const LAST_DAY: u32 = 3652059;
+
+// The lengths of the months in a year that is not leap; there is no month 0.
+const LENGTHS: [u32; 13] = [0, 31, 28, 31, 30, 31, 30, 31, 31, 30, 31, 30, 31];
+
+// The days of the first k months in a year that is not leap.
+const STARTS: [u32; 13] = [0, 31, 59, 90, 120, 151, 181, 212, 243, 273, 304, 334, 365];
+
+#[repr(C)]
+pub struct Date {
+    pub year: u32,
+    pub month: u32,
+    pub day: u32,
+}
+
+pub fn is_leap(year: u32) -> bool
+    ensures { λ r. ⌜ r ≡ leap year ⌝ }
+{
+    if year % 100 == 0 {
+        year % 400 == 0
+    } else {
+        year % 4 == 0
+    }
+}
+
+// 0 where there is no such month.
+pub fn days_in_month(year: u32, month: u32) -> u32
+    ensures { λ r. ⌜ r ≡ monthLength year month ⌝ }
+{
+    if month == 2 {
+        if is_leap(year) { 29 } else { 28 }
+    } else if month < 13 {
+        LENGTHS[month as usize]
+    } else {
+        0
+    }
+}
+
+pub fn is_date(year: u32, month: u32, day: u32) -> bool
+    ensures { λ r. ⌜ r ≡ isDate year month day ⌝ }
+{
+    if year < 1 {
+        return false;
+    }
+    if LAST_YEAR < year {
+        return false;
+    }
+    if month < 1 {
+        return false;
+    }
+    if 12 < month {
+        return false;
+    }
+    if day < 1 {
+        return false;
+    }
+    day <= days_in_month(year, month)
+}
+
+// The days of the years 1 to k.
+fn days_in_years(k: u32) -> u32
+    requires { ⌜ k ≤ 10000 ⌝ }
+    ensures { λ r. ⌜ r ≡ total yearLength k ⌝ }
+{
+    365 * k + k / 4 - k / 100 + k / 400
+}
+
+// The days of the months 1 to k.
+fn days_in_months(year: u32, k: u32) -> u32
+    requires { ⌜ k ≤ 12 ⌝ }
+    ensures { λ r. ⌜ r ≡ total (monthLength year) k ⌝ }
+{
+    let days = STARTS[k as usize];
+    if k < 2 {
+        return days;
+    }
+    if is_leap(year) { days + 1 } else { days }
+}
+
+pub fn day_number(year: u32, month: u32, day: u32) -> u32
+    requires { ⌜ isDate year month day ≡ true ⌝ }
+    ensures { λ r. ⌜ r ≡ dayNumber year month day ⌝ }
+{
+    days_in_years(year - 1) + (days_in_months(year, month - 1) + day)
+}
+
+// By the mean length of a year, 146097 / 400 days, which gives the year's place or one too low.
+fn year_of(n: u32) -> u32
+    requires { ⌜ (1 ≤ n) × (n ≤ lastDay) ⌝ }
+    ensures { λ r. ⌜ Within yearLength lastYear n r ⌝ }
+{
+    let k = (n - 1) * 400 / 146097;
+    if days_in_years(k + 1) < n {
+        k + 2
+    } else {
+        k + 1
+    }
+}
+
+// The month of day n of a year: by the length of a long month, which gives its place or one too low.
+fn month_of(year: u32, n: u32) -> u32
+    requires { ⌜ (1 ≤ n) × (n ≤ yearLength year) ⌝ }
+    ensures { λ r. ⌜ Within (monthLength year) 12 n r ⌝ }
+{
+    let k = (n - 1) / 31;
+    if days_in_months(year, k + 1) < n {
+        k + 2
+    } else {
+        k + 1
+    }
+}
+
+pub fn date_of(n: u32) -> Date
+    requires { ⌜ (1 ≤ n) × (n ≤ lastDay) ⌝ }
+    ensures { λ r. ⌜ r ≡ dateOf n ⌝ }
+{
+    let year = year_of(n);
+    let rest = n - days_in_years(year - 1);
+    let month = month_of(year, rest);
+    Date {
+        year,
+        month,
+        day: rest - days_in_months(year, month - 1),
+    }
+}
+
+// 0 Monday to 6 Sunday.
+pub fn weekday(n: u32) -> u32
+    ensures { λ r. ⌜ r ≡ weekdayOf n ⌝ }
+{
+    (n % 7 + 6) % 7
+}

@@ -1,0 +1,2 @@
+pub mod WeekdayLaws
+pub mod EasterLaws

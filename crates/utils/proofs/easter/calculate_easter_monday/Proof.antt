@@ -1,0 +1,41 @@
+use Prim.Native.Nat.{ℕ, _+_, _-_}
+use mathlib.Core.Path.{_≡_, ap}
+use native.Mathlib.Omega.{arith}
+use Rattle.utils.specs.declared.OptionalDay.{OptionalDay}
+use Rattle.utils.specs.declared.OptionalDay.the-variants.{Day, None}
+use Rattle.utils.specs.Easter.{moved, calculateEaster, calculateEasterMonday}
+use Rattle.utils.proofs.EasterLaws.{easter-day}
+use borrow.Author.Needs.{needs}
+use Rattle.utils.proofs.easter.calculate_easter_monday.Statement.{statement}
+use Rattle.utils.proofs.easter.calculate_easter_monday.Tie as tie
+
+calculate-easter-requires : tie.Need-calculate-easter-requires
+calculate-easter-requires c κs = search needs
+
+enum-known-easter : tie.Need-enum-known-easter
+enum-known-easter c = search needs
+
+enum-told : tie.Need-enum-told
+enum-told c = search needs
+
+returns : tie.Need-returns
+unfolding calculateEasterMonday
+returns c =
+    let e : None ≡ calculateEaster (c .before .before .before .args .year) = cc in
+    ap (moved (λ (n : ℕ). n + 1)) e
+
+add-t4 : tie.Need-add-t4
+add-t4 c =
+    let e : calculateEaster (c .before .before .before .before .args .year) ≡ Day (c .before .easter .given .0 .0) = cc in
+    omega (arith, easter-day (c .before .before .before .before .args .year) (c .before .easter .given .0 .0) e .1)
+
+returns-2 : tie.Need-returns-2
+unfolding calculateEasterMonday
+returns-2 c =
+    let e : Day (c .before .easter .given .0 .0) ≡ calculateEaster (c .before .before .before .before .args .year) = cc in
+    ap (moved (λ (n : ℕ). n + 1)) e
+
+pub calculate-easter-monday-spec : {M : Type 1} → statement M
+calculate-easter-monday-spec =
+    tie.close
+    (tie.spec calculate-easter-requires enum-known-easter enum-told returns add-t4 returns-2)

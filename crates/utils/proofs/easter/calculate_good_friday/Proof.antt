@@ -1,0 +1,41 @@
+use Prim.Native.Nat.{ℕ, _+_, _-_}
+use mathlib.Core.Path.{_≡_, ap}
+use native.Mathlib.Omega.{arith}
+use Rattle.utils.specs.declared.OptionalDay.{OptionalDay}
+use Rattle.utils.specs.declared.OptionalDay.the-variants.{Day, None}
+use Rattle.utils.specs.Easter.{moved, calculateEaster, calculateGoodFriday}
+use Rattle.utils.proofs.EasterLaws.{easter-day}
+use borrow.Author.Needs.{needs}
+use Rattle.utils.proofs.easter.calculate_good_friday.Statement.{statement}
+use Rattle.utils.proofs.easter.calculate_good_friday.Tie as tie
+
+calculate-easter-requires : tie.Need-calculate-easter-requires
+calculate-easter-requires c κs = search needs
+
+enum-known-easter : tie.Need-enum-known-easter
+enum-known-easter c = search needs
+
+enum-told : tie.Need-enum-told
+enum-told c = search needs
+
+returns : tie.Need-returns
+unfolding calculateGoodFriday
+returns c =
+    let e : None ≡ calculateEaster (c .before .before .before .args .year) = cc in
+    ap (moved (λ (n : ℕ). n - 2)) e
+
+sub-t4 : tie.Need-sub-t4
+sub-t4 c =
+    let e : calculateEaster (c .before .before .before .before .args .year) ≡ Day (c .before .easter .given .0 .0) = cc in
+    omega (arith, easter-day (c .before .before .before .before .args .year) (c .before .easter .given .0 .0) e .1)
+
+returns-2 : tie.Need-returns-2
+unfolding calculateGoodFriday
+returns-2 c =
+    let e : Day (c .before .easter .given .0 .0) ≡ calculateEaster (c .before .before .before .before .args .year) = cc in
+    ap (moved (λ (n : ℕ). n - 2)) e
+
+pub calculate-good-friday-spec : {M : Type 1} → statement M
+calculate-good-friday-spec =
+    tie.close
+    (tie.spec calculate-easter-requires enum-known-easter enum-told returns sub-t4 returns-2)

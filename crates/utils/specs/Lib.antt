@@ -1,0 +1,3 @@
+pub mod Weekday
+pub mod Easter
+pub mod Computus

@@ -1,0 +1,43 @@
+-- The nth and the last weekday of a month, as src/utils/mod.rs has them: docs/SCOPE.md [nth-weekday], [last-weekday].
+-- Weekdays are 0 Monday to 6 Sunday; days are day numbers. Assumes nothing.
+use Prim.Native.Nat.{ℕ, zero, suc, _+_, _-_, _*_, _%_}
+use mathlib.Core.Bool.{cond, _&&_}
+use lib.Dec.{leb, eqb}
+use Rattle.gregorian.specs.Calendar.{lastDay, isDate, dayNumber, dateOf, weekdayOf}
+use Rattle.utils.specs.declared.OptionalDay.{OptionalDay}
+use Rattle.utils.specs.declared.OptionalDay.the-variants.{Day, None}
+
+-- The first day from day s on that is a w: the Rust's first_day plus days_to_add.
+unfoldable pub firstFrom : ℕ → ℕ → ℕ
+firstFrom s w = s + (w + 7 - weekdayOf s) % 7
+
+-- target_date: n - 1 weeks after the first w of the month
+unfoldable pub targetDay : ℕ → ℕ → ℕ → ℕ → ℕ
+targetDay y m w n = firstFrom (dayNumber y m 1) w + 7 * (n - 1)
+
+-- Day t if its month has the number m, in whatever year; None also past 9999-12-31 (added).
+unfoldable pub ifInMonth : ℕ → ℕ → OptionalDay
+ifInMonth m t = cond (leb t lastDay && eqb (dateOf t .month) m) (Day t) None
+
+-- nth_weekday_of_month; None also for n = 0, a weekday above 6, and a month or a year outside (added)
+unfoldable pub nthWeekdayOfMonth : ℕ → ℕ → ℕ → ℕ → OptionalDay
+nthWeekdayOfMonth y m w n = cond (isDate y m 1 && leb w 6 && leb 1 n) (ifInMonth m (targetDay y m w n)) None
+
+-- The Rust's loop: `while last_day.weekday() != weekday { last_day -= 1 }`.
+unfoldable pub lastUpTo : ℕ → ℕ → ℕ
+lastUpTo w zero = 0
+lastUpTo w (suc n) = let before = lastUpTo w n in cond (eqb (weekdayOf (suc n)) w) (suc n) before
+
+abbrev pub nextMonth : ℕ → ℕ
+nextMonth m = cond (eqb m 12) 1 (m + 1)
+
+abbrev pub nextYear : ℕ → ℕ → ℕ
+nextYear y m = cond (eqb m 12) (y + 1) y
+
+-- last_weekday_of_month, from the day before first_of_next back; None where first_of_next lies past 9999-12-31, for a
+-- weekday above 6, and for a month or a year outside (added)
+unfoldable pub lastWeekdayOfMonth : ℕ → ℕ → ℕ → OptionalDay
+lastWeekdayOfMonth y m w =
+    cond (isDate y m 1 && leb w 6 && isDate (nextYear y m) (nextMonth m) 1)
+    (Day (lastUpTo w (dayNumber (nextYear y m) (nextMonth m) 1 - 1)))
+    None

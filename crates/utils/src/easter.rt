@@ -1,0 +1,47 @@
+// Easter by the Anonymous Gregorian algorithm, Good Friday and Easter Monday.
+ghost use mathlib.Core.Path.{_≡_};
+ghost use Rattle.utils.specs.Easter.{calculateEaster, calculateGoodFriday, calculateEasterMonday};
+use crate::OptionalDay;
+
+pub fn calculate_easter(year: u32) -> OptionalDay
+    ensures { λ r. ⌜ r ≡ calculateEaster year ⌝ }
+{
+    if year < 1 {
+        return OptionalDay::None;
+    }
+    if gregorian::LAST_YEAR < year {
+        return OptionalDay::None;
+    }
+    let a = year % 19;
+    let b = year / 100;
+    let c = year % 100;
+    let d = b / 4;
+    let e = b % 4;
+    let f = (b + 8) / 25;
+    let g = (b - f + 1) / 3;
+    let h = (19 * a + b - d - g + 15) % 30;
+    let i = c / 4;
+    let k = c % 4;
+    let l = (32 + 2 * e + 2 * i - h - k) % 7;
+    let m = (a + 11 * h + 22 * l) / 451;
+    let n = h + l - 7 * m + 114;
+    OptionalDay::Day(gregorian::day_number(year, n / 31, n % 31 + 1))
+}
+
+pub fn calculate_good_friday(year: u32) -> OptionalDay
+    ensures { λ r. ⌜ r ≡ calculateGoodFriday year ⌝ }
+{
+    let OptionalDay::Day(easter) = calculate_easter(year) else {
+        return OptionalDay::None;
+    };
+    OptionalDay::Day(easter - 2)
+}
+
+pub fn calculate_easter_monday(year: u32) -> OptionalDay
+    ensures { λ r. ⌜ r ≡ calculateEasterMonday year ⌝ }
+{
+    let OptionalDay::Day(easter) = calculate_easter(year) else {
+        return OptionalDay::None;
+    };
+    OptionalDay::Day(easter + 1)
+}

@@ -1,0 +1,95 @@
+// Utility functions for calendar operations: the nth and the last weekday of a month, and Easter.
+pub mod easter;
+
+ghost use mathlib.Core.Path.{_≡_};
+ghost use mathlib.Core.Bool.{true};
+ghost use Prim.Native.Nat.{_≤_};
+ghost use Rattle.gregorian.specs.Calendar.{isDate};
+ghost use Rattle.utils.specs.Weekday.{targetDay, ifInMonth, nthWeekdayOfMonth, nextMonth, nextYear, lastUpTo, lastWeekdayOfMonth};
+
+// In the place of the Rust's Option<NaiveDate>: a day number, or none.
+pub enum OptionalDay {
+    Day(u32),
+    None,
+}
+
+// nth - 1 weeks after the first such weekday of the month.
+fn target_day(year: u32, month: u32, weekday: u32, nth: u8) -> u32
+    requires { ⌜ (isDate year month 1 ≡ true) × (weekday ≤ 6) × (1 ≤ nth) ⌝ }
+    ensures { λ r. ⌜ (r ≡ targetDay year month weekday nth) × (1 ≤ r) ⌝ }
+{
+    let first_day = gregorian::day_number(year, month, 1);
+    let days_to_add = (weekday + 7 - gregorian::weekday(first_day)) % 7;
+    first_day + days_to_add + 7 * (nth as u32 - 1)
+}
+
+// Only the month's number is compared, not the year.
+fn if_in_month(month: u32, target: u32) -> OptionalDay
+    requires { ⌜ 1 ≤ target ⌝ }
+    ensures { λ r. ⌜ r ≡ ifInMonth month target ⌝ }
+{
+    if gregorian::LAST_DAY < target {
+        return OptionalDay::None;
+    }
+    let date = gregorian::date_of(target);
+    if date.month == month {
+        OptionalDay::Day(target)
+    } else {
+        OptionalDay::None
+    }
+}
+
+pub fn nth_weekday_of_month(year: u32, month: u32, weekday: u32, nth: u8) -> OptionalDay
+    ensures { λ r. ⌜ r ≡ nthWeekdayOfMonth year month weekday nth ⌝ }
+{
+    if !gregorian::is_date(year, month, 1) {
+        return OptionalDay::None;
+    }
+    if 6 < weekday {
+        return OptionalDay::None;
+    }
+    if nth < 1 {
+        return OptionalDay::None;
+    }
+    if_in_month(month, target_day(year, month, weekday, nth))
+}
+
+fn next_month(month: u32) -> u32
+    requires { ⌜ month ≤ 12 ⌝ }
+    ensures { λ r. ⌜ r ≡ nextMonth month ⌝ }
+{
+    if month == 12 { 1 } else { month + 1 }
+}
+
+fn next_year(year: u32, month: u32) -> u32
+    requires { ⌜ year ≤ 9999 ⌝ }
+    ensures { λ r. ⌜ r ≡ nextYear year month ⌝ }
+{
+    if month == 12 { year + 1 } else { year }
+}
+
+// The last such weekday up to day n: one of the seven days that end there.
+fn last_up_to(weekday: u32, n: u32) -> u32
+    requires { ⌜ (weekday ≤ 6) × (7 ≤ n) ⌝ }
+    ensures { λ r. ⌜ r ≡ lastUpTo weekday n ⌝ }
+{
+    n - (gregorian::weekday(n) + 7 - weekday) % 7
+}
+
+pub fn last_weekday_of_month(year: u32, month: u32, weekday: u32) -> OptionalDay
+    ensures { λ r. ⌜ r ≡ lastWeekdayOfMonth year month weekday ⌝ }
+{
+    if !gregorian::is_date(year, month, 1) {
+        return OptionalDay::None;
+    }
+    if 6 < weekday {
+        return OptionalDay::None;
+    }
+    let next_month = next_month(month);
+    let next_year = next_year(year, month);
+    if !gregorian::is_date(next_year, next_month, 1) {
+        return OptionalDay::None;
+    }
+    let first_of_next = gregorian::day_number(next_year, next_month, 1);
+    OptionalDay::Day(last_up_to(weekday, first_of_next - 1))
+}

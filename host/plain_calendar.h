@@ -1,0 +1,18 @@
+/* A second, plain calendar that the tests compare with. It shares no code and no method with the library: every day of
+ * the years 1 to 9999 stands in one table, and questions are answered by looking in it. */
+#ifndef PLAIN_CALENDAR_H
+#define PLAIN_CALENDAR_H
+
+#include "trading_calendar.h"
+
+/* Fills the table. To be called once, before any other function here. */
+void plain_fill(void);
+
+/* What the calls of the same names in trading_calendar.h have to answer. */
+tc_optional_date plain_nth_weekday_of_month(uint32_t year, uint32_t month, uint32_t weekday, uint8_t nth);
+tc_optional_date plain_last_weekday_of_month(uint32_t year, uint32_t month, uint32_t weekday);
+tc_optional_date plain_calculate_easter(uint32_t year);
+tc_optional_date plain_calculate_good_friday(uint32_t year);
+tc_optional_date plain_calculate_easter_monday(uint32_t year);
+
+#endif

@@ -1,0 +1,46 @@
+/* The calls of the trading calendar, for C and C++. Labels in brackets, as [easter], are those of docs/SCOPE.md. */
+#ifndef TRADING_CALENDAR_H
+#define TRADING_CALENDAR_H
+
+#include <stddef.h>
+#include <stdint.h>
+
+#ifdef __cplusplus
+extern "C" {
+#endif
+
+/* A Gregorian date of the years 1 to 9999 [date]. */
+typedef struct {
+    uint32_t year, month, day;
+} tc_date;
+
+/* found is 1 and date is the answer, or every field is 0: none. */
+typedef struct {
+    uint32_t found;
+    tc_date date;
+} tc_optional_date;
+
+/* Every call takes any numbers at all. A weekday is 0 for Monday to 6 for Sunday [weekday-numbers]. */
+
+/* The first such weekday of the month, and nth - 1 weeks on [nth-weekday]. None if that day's month has another number
+ * (its year is not compared), if nth is 0, or if the weekday, the month, the year or the answer is out of range. */
+tc_optional_date tc_nth_weekday_of_month(uint32_t year, uint32_t month, uint32_t weekday, uint8_t nth);
+
+/* The last such weekday of the month [last-weekday]. None in December 9999, and if the weekday, the month or the year is
+ * out of range. */
+tc_optional_date tc_last_weekday_of_month(uint32_t year, uint32_t month, uint32_t weekday);
+
+/* Easter Sunday of the year [easter]. None outside the years 1 to 9999. */
+tc_optional_date tc_calculate_easter(uint32_t year);
+
+/* The Friday two days before Easter Sunday [good-friday]. None outside the years 1 to 9999. */
+tc_optional_date tc_calculate_good_friday(uint32_t year);
+
+/* The Monday after Easter Sunday [easter-monday]. None outside the years 1 to 9999. */
+tc_optional_date tc_calculate_easter_monday(uint32_t year);
+
+#ifdef __cplusplus
+}
+#endif
+
+#endif
