@@ -14,7 +14,7 @@ use Rattle.gregorian.proofs.Laws.{is-date, date-is, month-low, next-number, num
 use Rattle.gregorian.proofs.Weekdays.{weekday-weeks}
 use Rattle.utils.specs.declared.OptionalDay.{OptionalDay}
 use Rattle.utils.specs.declared.OptionalDay.the-variants.{Day, None}
-use Rattle.utils.specs.Weekday.{firstFrom, targetDay, ifInMonth, nthWeekdayOfMonth, lastUpTo, nextMonth, nextYear, lastWeekdayOfMonth}
+use Rattle.utils.specs.Weekday.{firstFrom, targetDay, ifInMonth, nthWeekdayOfMonth, lastUpTo, nextMonth, nextYear, lastWeekdayOfMonth, InYears}
 
 -- what a test that leads to a day or to None says where there is a day
 pub when-day : (b : Bool) (x : OptionalDay) (t : ℕ) → cond b x None ≡ Day t → (b ≡ true) × (x ≡ Day t)
@@ -165,3 +165,28 @@ last-weekday y m w t e =
       to-last = omega (arith, f, i, q);
       greatest = λ u a b. last-none w n u w6 (omega (arith, o)) (omega (arith, q)) (omega (arith, f));
     }
+
+-- Each answer is a day of years 1 to 9999, or none.
+pub when-in-years : (b : Bool) (x : OptionalDay) → (b ≡ true → InYears x) → InYears (cond b x None)
+when-in-years true x h = h refl
+when-in-years false x h = tt
+
+pub nth-in-years : (y m w n : ℕ) → InYears (nthWeekdayOfMonth y m w n)
+unfolding nthWeekdayOfMonth ifInMonth targetDay
+nth-in-years y m w n =
+    let s = firstFrom (dayNumber y m 1) w in
+    when-in-years (isDate y m 1 && leb w 6 && leb 1 n) _
+    (λ c. when-in-years (leb (s + 7 * (n - 1)) lastDay && eqb (dateOf (s + 7 * (n - 1)) .month) m) _
+    (λ d. (omega (arith, first-near (dayNumber y m 1) w, number-range y m 1 (and-left (isDate y m 1) _ (and-left (isDate y m 1 && leb w 6) _ c))), leb-true _ lastDay (and-left (leb (s + 7 * (n - 1)) lastDay) _ d))))
+
+pub last-in-years : (y m w : ℕ) → InYears (lastWeekdayOfMonth y m w)
+unfolding lastWeekdayOfMonth
+last-in-years y m w =
+    let n = dayNumber (nextYear y m) (nextMonth m) 1 - 1 in
+    when-in-years (isDate y m 1 && leb w 6 && isDate (nextYear y m) (nextMonth m) 1) (Day (lastUpTo w n))
+    (λ c.
+    let d = and-left (isDate y m 1 && leb w 6) _ c in
+    let o = last-of-month y m (and-left (isDate y m 1) _ d) in
+    let i = last-is w n (leb-true w 6 (and-right (isDate y m 1) _ d)) (omega (arith, o)) in
+    let r = number-range (nextYear y m) (nextMonth m) 1 (and-right (isDate y m 1 && leb w 6) _ c) in
+    (omega (arith, o, i), omega (arith, i, r)))

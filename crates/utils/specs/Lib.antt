@@ -1,3 +1,2 @@
 pub mod Weekday
 pub mod Easter
-pub mod Computus

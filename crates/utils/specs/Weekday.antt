@@ -1,11 +1,16 @@
 -- The nth and the last weekday of a month, as src/utils/mod.rs has them: docs/SCOPE.md [nth-weekday], [last-weekday].
 -- Weekdays are 0 Monday to 6 Sunday; days are day numbers. Assumes nothing.
-use Prim.Native.Nat.{ℕ, zero, suc, _+_, _-_, _*_, _%_}
+use Prim.Native.Nat.{ℕ, zero, suc, _+_, _-_, _*_, _%_, _≤_}
 use mathlib.Core.Bool.{cond, _&&_}
 use lib.Dec.{leb, eqb}
 use Rattle.gregorian.specs.Calendar.{lastDay, isDate, dayNumber, dateOf, weekdayOf}
 use Rattle.utils.specs.declared.OptionalDay.{OptionalDay}
 use Rattle.utils.specs.declared.OptionalDay.the-variants.{Day, None}
+
+-- none, or a day of years 1 to 9999
+abbrev pub InYears : OptionalDay → Type 0
+InYears (Day n) = (1 ≤ n) × (n ≤ lastDay)
+InYears None = Unit {0}
 
 -- The first day from day s on that is a w: the Rust's first_day plus days_to_add.
 unfoldable pub firstFrom : ℕ → ℕ → ℕ

@@ -1,20 +1,21 @@
 use mathlib.Core.Path.{ap}
 use native.Mathlib.Omega.{arith}
 use borrow.Author.Tests.{lt-leb, le-leb}
+use Rattle.gregorian.specs.Calendar.{lastYear}
 use Rattle.utils.specs.declared.OptionalDay.the-variants.{Day}
 use Rattle.utils.specs.Easter.{easter, calculateEaster}
-use Rattle.utils.proofs.EasterLaws.{daysAfter, days-high, days-date, l-difference}
+use Rattle.utils.proofs.EasterLaws.{l-difference, n-fits, at-most-35, days-date}
 use borrow.Author.Needs.{needs}
 use Rattle.utils.proofs.easter.calculate_easter.Statement.{statement}
 use Rattle.utils.proofs.easter.calculate_easter.Tie as tie
 
 returns : tie.Need-returns
 unfolding calculateEaster
-returns c = simp (lt-leb _ _ (c .if1 .taken))
+returns c = simp (lt-leb 1 (c .before .args .year) (omega arith))
 
 returns-2 : tie.Need-returns-2
 unfolding calculateEaster
-returns-2 c = simp (le-leb _ _ (c .before .if1 .left), lt-leb _ _ (c .if2 .taken))
+returns-2 c = simp (le-leb 1 (c .before .before .args .year) (omega arith), lt-leb (c .before .before .args .year) lastYear (omega arith))
 
 add-f : tie.Need-add-f
 add-f c = search needs
@@ -80,19 +81,19 @@ sub-n : tie.Need-sub-n
 sub-n c = search needs
 
 add-n-2 : tie.Need-add-n-2
-unfolding daysAfter
-add-n-2 c = omega (arith, days-high (c .before .before .args .year))
+add-n-2 c = record { fits = n-fits _ _ _ }
 
 add-day-number : tie.Need-add-day-number
 add-day-number c = search needs
 
 day-number-requires : tie.Need-day-number-requires
-unfolding daysAfter
-day-number-requires c κs = days-date (c .before .before .args .year) (daysAfter (c .before .before .args .year)) (c .before .if1 .left) (c .if2 .left) (days-high (c .before .before .args .year))
+day-number-requires c κs = days-date _ _ (omega arith) (omega arith) (at-most-35 _ _ _)
 
 returns-3 : tie.Need-returns-3
 unfolding calculateEaster easter
-returns-3 c = simp (le-leb _ _ (c .before .before .if1 .left), le-leb _ _ (c .before .if2 .left)) (ap Day (c .day-number .ensures))
+returns-3 c =
+    simp (le-leb 1 (c .before .before .before .args .year) (omega arith), le-leb (c .before .before .before .args .year) lastYear (omega arith))
+    (ap Day (c .day-number .ensures))
 
 pub calculate-easter-spec : {M : Type 1} → statement M
 calculate-easter-spec =

@@ -27,7 +27,7 @@ returns c =
 add-t4 : tie.Need-add-t4
 add-t4 c =
     let e : calculateEaster (c .before .before .before .before .args .year) ≡ Day (c .before .easter .given .0 .0) = cc in
-    omega (arith, easter-day (c .before .before .before .before .args .year) (c .before .easter .given .0 .0) e .1)
+    omega (arith, easter-day (c .before .before .before .before .args .year) (c .before .easter .given .0 .0) e)
 
 returns-2 : tie.Need-returns-2
 unfolding calculateEasterMonday

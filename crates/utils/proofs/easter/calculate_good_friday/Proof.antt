@@ -27,7 +27,7 @@ returns c =
 sub-t4 : tie.Need-sub-t4
 sub-t4 c =
     let e : calculateEaster (c .before .before .before .before .args .year) ≡ Day (c .before .easter .given .0 .0) = cc in
-    omega (arith, easter-day (c .before .before .before .before .args .year) (c .before .easter .given .0 .0) e .1)
+    omega (arith, easter-day (c .before .before .before .before .args .year) (c .before .easter .given .0 .0) e)
 
 returns-2 : tie.Need-returns-2
 unfolding calculateGoodFriday

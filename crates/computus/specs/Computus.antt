@@ -1,10 +1,11 @@
 -- Easter by the Gregorian computus, from the golden number and the epact to the full moon and the Sunday after it. It shares no
--- step with src/utils/easter.rs; proofs/EasterLaws.antt shows that the two agree in years 1 to 9999. Assumes nothing.
-use Prim.Native.Nat.{ℕ, _+_, _-_, _*_, _/_, _%_}
-use mathlib.Core.Bool.{Bool, cond, _&&_}
+-- step with src/utils/easter.rs; proofs/Agreement.antt shows that the two agree in years 1 to 9999. Assumes nothing.
+use Prim.Native.Nat.{ℕ, _+_, _-_, _*_, _/_, _%_, _≤_}
+use mathlib.Core.Path.{_≡_}
+use mathlib.Core.Bool.{cond, _&&_}
 use lib.Dec.{eqb, ltb}
-use Rattle.gregorian.specs.Calendar.{dayNumber}
+use Rattle.gregorian.specs.Calendar.{dayNumber, weekdayOf}
 use Rattle.utils.specs.Weekday.{firstFrom}
 
 -- the year's place in the 19-year cycle of the moon, 1 to 19
 unfoldable pub goldenNumber : ℕ → ℕ
@@ -40,3 +41,10 @@ fullMoon y = dayNumber y 3 21 + (53 - epact y) % 30
 -- Easter is the first Sunday after that full moon.
 unfoldable pub computus : ℕ → ℕ
 computus y = firstFrom (fullMoon y + 1) 6
+
+-- What the day n is if it is Easter Sunday of year y.
+pub record EasterSunday (y n : ℕ) : Type 0 where
+  pub sunday : weekdayOf n ≡ 6
+  pub from-22-march : dayNumber y 3 22 ≤ n
+  pub to-25-april : n ≤ dayNumber y 4 25
+  pub by-computus : n ≡ computus y

@@ -1,0 +1,37 @@
+use mathlib.Core.Path.{_≡_, ap, _∙_, subst}
+use Rattle.utils.specs.declared.OptionalDay.the-variants.{Day, None}
+use Rattle.gregorian.specs.declared.Date.{Date}
+use Rattle.trading_calendar.specs.declared.OptionalDate.{OptionalDate}
+use mathlib.Core.Path.{ap, sym, _∙_, subst}
+use Rattle.utils.specs.Weekday.{InYears}
+use Rattle.trading_calendar.specs.Answers.{optionalDate}
+use borrow.Author.Needs.{needs}
+use Rattle.trading_calendar.proofs.optional_date.Statement.{statement}
+use Rattle.trading_calendar.proofs.optional_date.Tie as tie
+
+enum-known-day : tie.Need-enum-known-day
+enum-known-day c = search needs
+
+date-of-requires : tie.Need-date-of-requires
+date-of-requires c κs =
+    let e : c .before .before .before .args .day ≡ Day (c .before .day .given .0 .0) = cc in
+    subst InYears e (c .before .before .before .pre)
+
+enum-told : tie.Need-enum-told
+enum-told c = search needs
+
+returns : tie.Need-returns
+unfolding optionalDate
+returns c =
+    let e : Day (c .before .before .day .given .0 .0) ≡ c .before .before .before .before .args .day = cc in
+    ap {B = OptionalDate} (λ (t : Date). record { found = 1; date = t }) (c .date-of .ensures) ∙ ap optionalDate e
+
+returns-2 : tie.Need-returns-2
+unfolding optionalDate
+returns-2 c =
+    let e : None ≡ c .before .before .args .day = cc in
+    ap optionalDate e
+
+pub optional-date-spec : {M : Type 1} → statement M
+optional-date-spec =
+    tie.close (tie.spec enum-known-day date-of-requires enum-told returns returns-2)

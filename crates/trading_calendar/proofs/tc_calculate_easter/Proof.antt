@@ -1,0 +1,19 @@
+use mathlib.Core.Path.{sym, subst}
+use Rattle.utils.specs.Weekday.{InYears}
+use Rattle.utils.proofs.EasterLaws.{easter-in-years}
+use borrow.Author.Needs.{needs}
+use Rattle.trading_calendar.proofs.tc_calculate_easter.Statement.{statement}
+use Rattle.trading_calendar.proofs.tc_calculate_easter.Tie as tie
+
+calculate-easter-requires : tie.Need-calculate-easter-requires
+calculate-easter-requires c κs = search needs
+
+optional-date-requires : tie.Need-optional-date-requires
+optional-date-requires c κs = subst InYears (sym (c .calculate-easter .ensures)) (easter-in-years (c .before .args .year))
+
+returns : tie.Need-returns
+returns c = cc
+
+pub tc-calculate-easter-spec : {M : Type 1} → statement M
+tc-calculate-easter-spec =
+    tie.close (tie.spec calculate-easter-requires optional-date-requires returns)

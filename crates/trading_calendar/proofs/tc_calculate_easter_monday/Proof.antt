@@ -1,0 +1,19 @@
+use mathlib.Core.Path.{sym, subst}
+use Rattle.utils.specs.Weekday.{InYears}
+use Rattle.utils.proofs.EasterLaws.{easter-monday-in-years}
+use borrow.Author.Needs.{needs}
+use Rattle.trading_calendar.proofs.tc_calculate_easter_monday.Statement.{statement}
+use Rattle.trading_calendar.proofs.tc_calculate_easter_monday.Tie as tie
+
+calculate-easter-monday-requires : tie.Need-calculate-easter-monday-requires
+calculate-easter-monday-requires c κs = search needs
+
+optional-date-requires : tie.Need-optional-date-requires
+optional-date-requires c κs = subst InYears (sym (c .calculate-easter-monday .ensures)) (easter-monday-in-years (c .before .args .year))
+
+returns : tie.Need-returns
+returns c = cc
+
+pub tc-calculate-easter-monday-spec : {M : Type 1} → statement M
+tc-calculate-easter-monday-spec =
+    tie.close (tie.spec calculate-easter-monday-requires optional-date-requires returns)

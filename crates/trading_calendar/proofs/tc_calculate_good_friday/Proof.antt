@@ -1,0 +1,19 @@
+use mathlib.Core.Path.{sym, subst}
+use Rattle.utils.specs.Weekday.{InYears}
+use Rattle.utils.proofs.EasterLaws.{good-friday-in-years}
+use borrow.Author.Needs.{needs}
+use Rattle.trading_calendar.proofs.tc_calculate_good_friday.Statement.{statement}
+use Rattle.trading_calendar.proofs.tc_calculate_good_friday.Tie as tie
+
+calculate-good-friday-requires : tie.Need-calculate-good-friday-requires
+calculate-good-friday-requires c κs = search needs
+
+optional-date-requires : tie.Need-optional-date-requires
+optional-date-requires c κs = subst InYears (sym (c .calculate-good-friday .ensures)) (good-friday-in-years (c .before .args .year))
+
+returns : tie.Need-returns
+returns c = cc
+
+pub tc-calculate-good-friday-spec : {M : Type 1} → statement M
+tc-calculate-good-friday-spec =
+    tie.close (tie.spec calculate-good-friday-requires optional-date-requires returns)

@@ -1,0 +1,19 @@
+use mathlib.Core.Path.{sym, subst}
+use Rattle.utils.specs.Weekday.{InYears}
+use Rattle.utils.proofs.WeekdayLaws.{last-in-years}
+use borrow.Author.Needs.{needs}
+use Rattle.trading_calendar.proofs.tc_last_weekday_of_month.Statement.{statement}
+use Rattle.trading_calendar.proofs.tc_last_weekday_of_month.Tie as tie
+
+last-weekday-of-month-requires : tie.Need-last-weekday-of-month-requires
+last-weekday-of-month-requires c κs = search needs
+
+optional-date-requires : tie.Need-optional-date-requires
+optional-date-requires c κs = subst InYears (sym (c .last-weekday-of-month .ensures)) (last-in-years _ _ _)
+
+returns : tie.Need-returns
+returns c = cc
+
+pub tc-last-weekday-of-month-spec : {M : Type 1} → statement M
+tc-last-weekday-of-month-spec =
+    tie.close (tie.spec last-weekday-of-month-requires optional-date-requires returns)
