@@ -28,11 +28,5 @@ returns c = number-parts (c .before .before .args .year) (c .before .before .arg
 pub day-number-spec : {M : Type 1} → statement M
 day-number-spec =
     tie.close
-    (tie.spec
-    sub-days-in-years
-    days-in-years-requires
-    sub-days-in-months
-    days-in-months-requires
-    add-result
-    add-result-2
-    returns)
+    (tie.spec sub-days-in-years days-in-years-requires sub-days-in-months days-in-months-requires
+    add-result add-result-2 returns)

@@ -6,15 +6,6 @@ use borrow.Author.Needs.{needs}
 use Rattle.gregorian.proofs.days_in_month.Statement.{statement}
 use Rattle.gregorian.proofs.days_in_month.Tie as tie
 
-is-leap-requires : tie.Need-is-leap-requires
-is-leap-requires c κs = search needs
-
-mul-result : tie.Need-mul-result
-mul-result c = search needs
-
-array-read-result : tie.Need-array-read-result
-array-read-result c = search needs
-
 returns : tie.Need-returns
 returns c = omega (arith, february (c .before .before .before .args .year) (c .before .before .before .args .month) (c .before .before .if1 .taken), leap-is (c .before .before .before .args .year) (c .before .is-leap .result) true (c .before .is-leap .ensures) (c .if2 .taken))
 
@@ -30,4 +21,4 @@ returns-4 c = sym (no-month (c .before .before .args .year) (c .before .before .
 pub days-in-month-spec : {M : Type 1} → statement M
 days-in-month-spec =
     tie.close
-    (tie.spec is-leap-requires mul-result array-read-result returns returns-2 returns-3 returns-4)
+    (tie.spec (search needs) (search needs) (search needs) returns returns-2 returns-3 returns-4)

@@ -4,17 +4,8 @@ use borrow.Author.Needs.{needs}
 use Rattle.gregorian.proofs.days_in_months.Statement.{statement}
 use Rattle.gregorian.proofs.days_in_months.Tie as tie
 
-mul-days : tie.Need-mul-days
-mul-days c = search needs
-
-array-read-days : tie.Need-array-read-days
-array-read-days c = search needs
-
 returns : tie.Need-returns
 returns c = before-march (c .before .args .year) (c .before .args .k) (c .if1 .taken)
-
-is-leap-requires : tie.Need-is-leap-requires
-is-leap-requires c κs = search needs
 
 add-result : tie.Need-add-result
 add-result c = omega (arith, starts-small (c .before .before .before .args .k) (omega arith))
@@ -28,4 +19,4 @@ returns-3 c = omega (arith, from-march (c .before .before .before .args .year) (
 pub days-in-months-spec : {M : Type 1} → statement M
 days-in-months-spec =
     tie.close
-    (tie.spec mul-days array-read-days returns is-leap-requires add-result returns-2 returns-3)
+    (tie.spec (search needs) (search needs) returns (search needs) add-result returns-2 returns-3)

@@ -26,9 +26,6 @@ returns-5 : tie.Need-returns-5
 unfolding isDate
 returns-5 c = simp (le-leb _ _ (c .before .before .before .before .if1 .left), le-leb _ _ (c .before .before .before .if2 .left), le-leb _ _ (c .before .before .if3 .left), le-leb _ _ (c .before .if4 .left), lt-leb _ _ (c .if5 .taken))
 
-days-in-month-requires : tie.Need-days-in-month-requires
-days-in-month-requires c κs = search needs
-
 returns-6 : tie.Need-returns-6
 unfolding isDate
 returns-6 c = simp (le-leb _ _ (c .before .before .before .before .before .if1 .left), le-leb _ _ (c .before .before .before .before .if2 .left), le-leb _ _ (c .before .before .before .if3 .left), le-leb _ _ (c .before .before .if4 .left), le-leb _ _ (c .before .if5 .left)) (ap (leb (c .before .before .before .before .before .before .args .day)) (c .days-in-month .ensures))
@@ -36,4 +33,4 @@ returns-6 c = simp (le-leb _ _ (c .before .before .before .before .before .if1 .
 pub is-date-spec : {M : Type 1} → statement M
 is-date-spec =
     tie.close
-    (tie.spec returns returns-2 returns-3 returns-4 returns-5 days-in-month-requires returns-6)
+    (tie.spec returns returns-2 returns-3 returns-4 returns-5 (search needs) returns-6)

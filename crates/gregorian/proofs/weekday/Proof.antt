@@ -4,12 +4,9 @@ use borrow.Author.Needs.{needs}
 use Rattle.gregorian.proofs.weekday.Statement.{statement}
 use Rattle.gregorian.proofs.weekday.Tie as tie
 
-add-result : tie.Need-add-result
-add-result c = search needs
-
 returns : tie.Need-returns
 unfolding weekdayOf
 returns c = omega arith
 
 pub weekday-spec : {M : Type 1} → statement M
-weekday-spec = tie.close (tie.spec add-result returns)
+weekday-spec = tie.close (tie.spec (search needs) returns)

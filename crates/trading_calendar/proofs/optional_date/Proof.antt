@@ -9,16 +9,10 @@ use borrow.Author.Needs.{needs}
 use Rattle.trading_calendar.proofs.optional_date.Statement.{statement}
 use Rattle.trading_calendar.proofs.optional_date.Tie as tie
 
-enum-known-day : tie.Need-enum-known-day
-enum-known-day c = search needs
-
 date-of-requires : tie.Need-date-of-requires
 date-of-requires c κs =
     let e : c .before .before .before .args .day ≡ Day (c .before .day .given .0 .0) = cc in
     subst InYears e (c .before .before .before .pre)
-
-enum-told : tie.Need-enum-told
-enum-told c = search needs
 
 returns : tie.Need-returns
 unfolding optionalDate
@@ -34,4 +28,4 @@ returns-2 c =
 
 pub optional-date-spec : {M : Type 1} → statement M
 optional-date-spec =
-    tie.close (tie.spec enum-known-day date-of-requires enum-told returns returns-2)
+    tie.close (tie.spec (search needs) date-of-requires (search needs) returns returns-2)

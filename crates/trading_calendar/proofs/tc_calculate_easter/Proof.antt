@@ -5,9 +5,6 @@ use borrow.Author.Needs.{needs}
 use Rattle.trading_calendar.proofs.tc_calculate_easter.Statement.{statement}
 use Rattle.trading_calendar.proofs.tc_calculate_easter.Tie as tie
 
-calculate-easter-requires : tie.Need-calculate-easter-requires
-calculate-easter-requires c κs = search needs
-
 optional-date-requires : tie.Need-optional-date-requires
 optional-date-requires c κs = subst InYears (sym (c .calculate-easter .ensures)) (easter-in-years (c .before .args .year))
 
@@ -16,4 +13,4 @@ returns c = cc
 
 pub tc-calculate-easter-spec : {M : Type 1} → statement M
 tc-calculate-easter-spec =
-    tie.close (tie.spec calculate-easter-requires optional-date-requires returns)
+    tie.close (tie.spec (search needs) optional-date-requires returns)

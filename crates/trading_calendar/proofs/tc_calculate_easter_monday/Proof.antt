@@ -5,9 +5,6 @@ use borrow.Author.Needs.{needs}
 use Rattle.trading_calendar.proofs.tc_calculate_easter_monday.Statement.{statement}
 use Rattle.trading_calendar.proofs.tc_calculate_easter_monday.Tie as tie
 
-calculate-easter-monday-requires : tie.Need-calculate-easter-monday-requires
-calculate-easter-monday-requires c κs = search needs
-
 optional-date-requires : tie.Need-optional-date-requires
 optional-date-requires c κs = subst InYears (sym (c .calculate-easter-monday .ensures)) (easter-monday-in-years (c .before .args .year))
 
@@ -16,4 +13,4 @@ returns c = cc
 
 pub tc-calculate-easter-monday-spec : {M : Type 1} → statement M
 tc-calculate-easter-monday-spec =
-    tie.close (tie.spec calculate-easter-monday-requires optional-date-requires returns)
+    tie.close (tie.spec (search needs) optional-date-requires returns)

@@ -5,9 +5,6 @@ use borrow.Author.Needs.{needs}
 use Rattle.trading_calendar.proofs.tc_calculate_good_friday.Statement.{statement}
 use Rattle.trading_calendar.proofs.tc_calculate_good_friday.Tie as tie
 
-calculate-good-friday-requires : tie.Need-calculate-good-friday-requires
-calculate-good-friday-requires c κs = search needs
-
 optional-date-requires : tie.Need-optional-date-requires
 optional-date-requires c κs = subst InYears (sym (c .calculate-good-friday .ensures)) (good-friday-in-years (c .before .args .year))
 
@@ -16,4 +13,4 @@ returns c = cc
 
 pub tc-calculate-good-friday-spec : {M : Type 1} → statement M
 tc-calculate-good-friday-spec =
-    tie.close (tie.spec calculate-good-friday-requires optional-date-requires returns)
+    tie.close (tie.spec (search needs) optional-date-requires returns)

@@ -5,9 +5,6 @@ use borrow.Author.Needs.{needs}
 use Rattle.trading_calendar.proofs.tc_last_weekday_of_month.Statement.{statement}
 use Rattle.trading_calendar.proofs.tc_last_weekday_of_month.Tie as tie
 
-last-weekday-of-month-requires : tie.Need-last-weekday-of-month-requires
-last-weekday-of-month-requires c κs = search needs
-
 optional-date-requires : tie.Need-optional-date-requires
 optional-date-requires c κs = subst InYears (sym (c .last-weekday-of-month .ensures)) (last-in-years _ _ _)
 
@@ -16,4 +13,4 @@ returns c = cc
 
 pub tc-last-weekday-of-month-spec : {M : Type 1} → statement M
 tc-last-weekday-of-month-spec =
-    tie.close (tie.spec last-weekday-of-month-requires optional-date-requires returns)
+    tie.close (tie.spec (search needs) optional-date-requires returns)

@@ -5,9 +5,6 @@ use borrow.Author.Needs.{needs}
 use Rattle.trading_calendar.proofs.tc_nth_weekday_of_month.Statement.{statement}
 use Rattle.trading_calendar.proofs.tc_nth_weekday_of_month.Tie as tie
 
-nth-weekday-of-month-requires : tie.Need-nth-weekday-of-month-requires
-nth-weekday-of-month-requires c κs = search needs
-
 optional-date-requires : tie.Need-optional-date-requires
 optional-date-requires c κs = subst InYears (sym (c .nth-weekday-of-month .ensures)) (nth-in-years _ _ _ _)
 
@@ -16,4 +13,4 @@ returns c = cc
 
 pub tc-nth-weekday-of-month-spec : {M : Type 1} → statement M
 tc-nth-weekday-of-month-spec =
-    tie.close (tie.spec nth-weekday-of-month-requires optional-date-requires returns)
+    tie.close (tie.spec (search needs) optional-date-requires returns)

@@ -11,9 +11,6 @@ returns : tie.Need-returns
 unfolding ifInMonth
 returns c = simp (lt-leb _ _ (c .if1 .taken))
 
-date-of-requires : tie.Need-date-of-requires
-date-of-requires c κs = search needs
-
 returns-2 : tie.Need-returns-2
 unfolding ifInMonth
 returns-2 c = simp (le-leb _ _ (c .before .before .before .if1 .left), eq-eqb (dateOf (c .before .before .before .before .args .target) .month) (c .before .before .before .before .args .month) (sym (ap (λ (t : Date). t .month) (c .before .before .date-of .ensures)) ∙ c .if2 .taken))
@@ -23,4 +20,4 @@ unfolding ifInMonth
 returns-3 c = simp (le-leb _ _ (c .before .before .before .if1 .left), ne-eqb (dateOf (c .before .before .before .before .args .target) .month) (c .before .before .before .before .args .month) (λ e. c .if2 .left (ap (λ (t : Date). t .month) (c .before .before .date-of .ensures) ∙ e)))
 
 pub if-in-month-spec : {M : Type 1} → statement M
-if-in-month-spec = tie.close (tie.spec returns date-of-requires returns-2 returns-3)
+if-in-month-spec = tie.close (tie.spec returns (search needs) returns-2 returns-3)

@@ -7,20 +7,11 @@ use borrow.Author.Needs.{needs}
 use Rattle.utils.proofs.last_up_to.Statement.{statement}
 use Rattle.utils.proofs.last_up_to.Tie as tie
 
-weekday-requires : tie.Need-weekday-requires
-weekday-requires c κs = search needs
-
 add-result : tie.Need-add-result
 add-result c = omega (arith, weekday-range (c .before .args .n), c .weekday .ensures)
-
-sub-result : tie.Need-sub-result
-sub-result c = search needs
-
-sub-result-2 : tie.Need-sub-result-2
-sub-result-2 c = search needs
 
 returns : tie.Need-returns
 returns c = ap (λ (w : ℕ). c .before .args .n - (w + 7 - c .before .args .weekday) % 7) (c .weekday .ensures) ∙ sym (last-up-to (c .before .args .weekday) (c .before .args .n) (c .before .pre .0) (omega arith))
 
 pub last-up-to-spec : {M : Type 1} → statement M
-last-up-to-spec = tie.close (tie.spec weekday-requires add-result sub-result sub-result-2 returns)
+last-up-to-spec = tie.close (tie.spec (search needs) add-result (search needs) (search needs) returns)

@@ -11,9 +11,6 @@ use Rattle.utils.proofs.WeekdayLaws.{last-of-month}
 use Rattle.utils.proofs.last_weekday_of_month.Statement.{statement}
 use Rattle.utils.proofs.last_weekday_of_month.Tie as tie
 
-is-date-requires : tie.Need-is-date-requires
-is-date-requires c κs = search needs
-
 returns : tie.Need-returns
 unfolding lastWeekdayOfMonth
 returns c = simp (sym (c .before .is-date .ensures) ∙ not-true _ (c .if1 .taken))
@@ -27,9 +24,6 @@ next-month-requires c κs = is-date _ _ _ (sym (c .before .before .is-date .ensu
 
 next-year-requires : tie.Need-next-year-requires
 next-year-requires c κs = is-date _ _ _ (sym (c .before .before .before .is-date .ensures) ∙ not-false _ (c .before .before .if1 .left)) .y-high
-
-is-date-requires-2 : tie.Need-is-date-requires-2
-is-date-requires-2 c κs = search needs
 
 returns-3 : tie.Need-returns-3
 unfolding lastWeekdayOfMonth
@@ -53,15 +47,5 @@ returns-4 c =
 pub last-weekday-of-month-spec : {M : Type 1} → statement M
 last-weekday-of-month-spec =
     tie.close
-    (tie.spec
-    is-date-requires
-    returns
-    returns-2
-    next-month-requires
-    next-year-requires
-    is-date-requires-2
-    returns-3
-    day-number-requires
-    sub-last-up-to
-    last-up-to-requires
-    returns-4)
+    (tie.spec (search needs) returns returns-2 next-month-requires next-year-requires (search needs)
+    returns-3 day-number-requires sub-last-up-to last-up-to-requires returns-4)

@@ -3,9 +3,6 @@ use borrow.Author.Needs.{needs}
 use Rattle.utils.proofs.next_month.Statement.{statement}
 use Rattle.utils.proofs.next_month.Tie as tie
 
-add-result : tie.Need-add-result
-add-result c = search needs
-
 returns : tie.Need-returns
 returns c = simp (eq-eqb _ _ (c .if1 .taken))
 
@@ -13,4 +10,4 @@ returns-2 : tie.Need-returns-2
 returns-2 c = simp (ne-eqb _ _ (c .if1 .left))
 
 pub next-month-spec : {M : Type 1} → statement M
-next-month-spec = tie.close (tie.spec add-result returns returns-2)
+next-month-spec = tie.close (tie.spec (search needs) returns returns-2)

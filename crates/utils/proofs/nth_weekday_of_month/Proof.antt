@@ -6,9 +6,6 @@ use borrow.Author.Needs.{needs}
 use Rattle.utils.proofs.nth_weekday_of_month.Statement.{statement}
 use Rattle.utils.proofs.nth_weekday_of_month.Tie as tie
 
-is-date-requires : tie.Need-is-date-requires
-is-date-requires c κs = search needs
-
 returns : tie.Need-returns
 unfolding nthWeekdayOfMonth
 returns c = simp (sym (c .before .is-date .ensures) ∙ not-true _ (c .if1 .taken))
@@ -24,9 +21,6 @@ returns-3 c = simp (sym (c .before .before .before .is-date .ensures) ∙ not-fa
 target-day-requires : tie.Need-target-day-requires
 target-day-requires c κs = (sym (c .before .before .before .is-date .ensures) ∙ not-false _ (c .before .before .if1 .left), omega arith, omega arith)
 
-if-in-month-requires : tie.Need-if-in-month-requires
-if-in-month-requires c κs = search needs
-
 returns-4 : tie.Need-returns-4
 unfolding nthWeekdayOfMonth
 returns-4 c =
@@ -36,11 +30,5 @@ returns-4 c =
 pub nth-weekday-of-month-spec : {M : Type 1} → statement M
 nth-weekday-of-month-spec =
     tie.close
-    (tie.spec
-    is-date-requires
-    returns
-    returns-2
-    returns-3
-    target-day-requires
-    if-in-month-requires
+    (tie.spec (search needs) returns returns-2 returns-3 target-day-requires (search needs)
     returns-4)

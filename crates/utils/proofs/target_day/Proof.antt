@@ -7,25 +7,13 @@ use Rattle.utils.proofs.target_day.Statement.{statement}
 use Rattle.utils.proofs.target_day.Tie as tie
 
 day-number-requires : tie.Need-day-number-requires
-day-number-requires c κs = search needs
-
-add-days-to-add : tie.Need-add-days-to-add
-add-days-to-add c = search needs
-
-weekday-requires : tie.Need-weekday-requires
-weekday-requires c κs = search needs
+day-number-requires c κs = c .pre .0
 
 sub-days-to-add : tie.Need-sub-days-to-add
 sub-days-to-add c = omega (arith, weekday-range (c .before .day-number .result), c .weekday .ensures)
 
 add-result : tie.Need-add-result
 add-result c = omega (arith, number-range (c .before .before .args .year) (c .before .before .args .month) 1 (c .before .before .pre .0), c .before .day-number .ensures)
-
-sub-result : tie.Need-sub-result
-sub-result c = search needs
-
-mul-result : tie.Need-mul-result
-mul-result c = search needs
 
 add-result-2 : tie.Need-add-result-2
 add-result-2 c = omega (arith, number-range (c .before .before .args .year) (c .before .before .args .month) 1 (c .before .before .pre .0), c .before .day-number .ensures)
@@ -37,13 +25,5 @@ returns c = (cc (c .before .day-number .ensures, c .weekday .ensures), omega (ar
 pub target-day-spec : {M : Type 1} → statement M
 target-day-spec =
     tie.close
-    (tie.spec
-    day-number-requires
-    add-days-to-add
-    weekday-requires
-    sub-days-to-add
-    add-result
-    sub-result
-    mul-result
-    add-result-2
-    returns)
+    (tie.spec day-number-requires (search needs) (search needs) sub-days-to-add add-result (search needs)
+    (search needs) add-result-2 returns)

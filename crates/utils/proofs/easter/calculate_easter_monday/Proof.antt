@@ -9,15 +9,6 @@ use borrow.Author.Needs.{needs}
 use Rattle.utils.proofs.easter.calculate_easter_monday.Statement.{statement}
 use Rattle.utils.proofs.easter.calculate_easter_monday.Tie as tie
 
-calculate-easter-requires : tie.Need-calculate-easter-requires
-calculate-easter-requires c κs = search needs
-
-enum-known-easter : tie.Need-enum-known-easter
-enum-known-easter c = search needs
-
-enum-told : tie.Need-enum-told
-enum-told c = search needs
-
 returns : tie.Need-returns
 unfolding calculateEasterMonday
 returns c =
@@ -38,4 +29,4 @@ returns-2 c =
 pub calculate-easter-monday-spec : {M : Type 1} → statement M
 calculate-easter-monday-spec =
     tie.close
-    (tie.spec calculate-easter-requires enum-known-easter enum-told returns add-t4 returns-2)
+    (tie.spec (search needs) (search needs) (search needs) returns add-t4 returns-2)

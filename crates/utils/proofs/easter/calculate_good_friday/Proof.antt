@@ -9,15 +9,6 @@ use borrow.Author.Needs.{needs}
 use Rattle.utils.proofs.easter.calculate_good_friday.Statement.{statement}
 use Rattle.utils.proofs.easter.calculate_good_friday.Tie as tie
 
-calculate-easter-requires : tie.Need-calculate-easter-requires
-calculate-easter-requires c κs = search needs
-
-enum-known-easter : tie.Need-enum-known-easter
-enum-known-easter c = search needs
-
-enum-told : tie.Need-enum-told
-enum-told c = search needs
-
 returns : tie.Need-returns
 unfolding calculateGoodFriday
 returns c =
@@ -38,4 +29,4 @@ returns-2 c =
 pub calculate-good-friday-spec : {M : Type 1} → statement M
 calculate-good-friday-spec =
     tie.close
-    (tie.spec calculate-easter-requires enum-known-easter enum-told returns sub-t4 returns-2)
+    (tie.spec (search needs) (search needs) (search needs) returns sub-t4 returns-2)

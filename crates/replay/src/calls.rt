@@ -1,0 +1,89 @@
+// The kinds of calls that rows store: the name of each, and the library's answer to its inputs. A new kind is a number
+// here, a name, how many inputs it takes, and a call of the library in `answer`.
+use crate::name::Name;
+use crate::numbers::Numbers;
+use trading_calendar::OptionalDate;
+use trading_calendar::tc_calculate_easter;
+use trading_calendar::tc_calculate_easter_monday;
+use trading_calendar::tc_calculate_good_friday;
+use trading_calendar::tc_last_weekday_of_month;
+use trading_calendar::tc_nth_weekday_of_month;
+
+pub const NTH_WEEKDAY_OF_MONTH: usize = 0;
+
+pub const LAST_WEEKDAY_OF_MONTH: usize = 1;
+
+pub const CALCULATE_EASTER: usize = 2;
+
+pub const CALCULATE_GOOD_FRIDAY: usize = 3;
+
+pub const CALCULATE_EASTER_MONDAY: usize = 4;
+
+// How many kinds there are. Where a kind is asked for, it says that there is none.
+pub const KINDS: usize = 5;
+
+pub fn name(kind: usize) -> Name {
+    match kind {
+        NTH_WEEKDAY_OF_MONTH => Name::of(b"nth_weekday_of_month"),
+        LAST_WEEKDAY_OF_MONTH => Name::of(b"last_weekday_of_month"),
+        CALCULATE_EASTER => Name::of(b"calculate_easter"),
+        CALCULATE_GOOD_FRIDAY => Name::of(b"calculate_good_friday"),
+        CALCULATE_EASTER_MONDAY => Name::of(b"calculate_easter_monday"),
+        _ => Name::new(),
+    }
+}
+
+// The kind of call with the name, or KINDS where there is none.
+pub fn kind_of(text: Name) -> usize {
+    let mut kind = 0;
+    while kind < KINDS {
+        if name(kind).is(text) {
+            return kind;
+        }
+        kind += 1;
+    }
+    KINDS
+}
+
+// How many inputs the kind takes.
+fn input_count(kind: usize) -> usize {
+    match kind {
+        NTH_WEEKDAY_OF_MONTH => 4,
+        LAST_WEEKDAY_OF_MONTH => 3,
+        CALCULATE_EASTER | CALCULATE_GOOD_FRIDAY | CALCULATE_EASTER_MONDAY => 1,
+        _ => 0,
+    }
+}
+
+// The numbers of the library's answer. None where the kind takes no such inputs: every answer has a number.
+pub fn answer(kind: usize, inputs: Numbers) -> Numbers {
+    let v = inputs.values;
+    if inputs.count != input_count(kind) {
+        return Numbers::new();
+    }
+    match kind {
+        NTH_WEEKDAY_OF_MONTH => nth_weekday_of_month(v[0], v[1], v[2], v[3]),
+        LAST_WEEKDAY_OF_MONTH => optional_date(tc_last_weekday_of_month(v[0], v[1], v[2])),
+        CALCULATE_EASTER => optional_date(tc_calculate_easter(v[0])),
+        CALCULATE_GOOD_FRIDAY => optional_date(tc_calculate_good_friday(v[0])),
+        CALCULATE_EASTER_MONDAY => optional_date(tc_calculate_easter_monday(v[0])),
+        _ => Numbers::new(),
+    }
+}
+
+fn nth_weekday_of_month(year: u32, month: u32, weekday: u32, nth: u32) -> Numbers {
+    if nth > 255 {
+        return Numbers::new();
+    }
+    optional_date(tc_nth_weekday_of_month(year, month, weekday, nth as u8))
+}
+
+// The fields of the C struct, in order.
+fn optional_date(answer: OptionalDate) -> Numbers {
+    let date = answer.date;
+    Numbers::new()
+        .push(answer.found)
+        .push(date.year)
+        .push(date.month)
+        .push(date.day)
+}
