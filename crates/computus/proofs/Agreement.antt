@@ -1,6 +1,6 @@
 -- Easter by the Anonymous Gregorian algorithm is Easter by the computus, in years 1 to 9999.
 -- Assumes nothing.
-use Prim.Native.Nat.{ℕ, _+_, _-_, _*_, _%_, _≤_}
+use Prim.Native.Nat.{ℕ, _+_, _-_, _%_, _≤_}
 use mathlib.Core.Path.{_≡_, refl, ap, sym, _∙_}
 use mathlib.Core.Bool.{Bool, true}
 use lib.Dec.{eqb, lit≤}

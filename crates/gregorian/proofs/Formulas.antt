@@ -1,6 +1,6 @@
 -- What the code's formulas and tables come to.
 -- Assumes nothing.
-use Prim.Native.Nat.{ℕ, zero, suc, _+_, _-_, _*_, _/_, _%_, _≤_, _<_}
+use Prim.Native.Nat.{ℕ, _+_, _-_, _*_, _/_, _≤_, _<_}
 use mathlib.Core.Path.{_≡_, refl, ap, sym, _∙_, subst}
 use mathlib.Core.Bool.{Bool, true, false, cond}
 use mathlib.Core.List.{List, [], _∷_}
@@ -13,7 +13,7 @@ use Rattle.gregorian.proofs.Total.{total-next, total-mono, upto}
 use Rattle.gregorian.proofs.Years.{years, years-is}
 use Rattle.gregorian.proofs.Laws.{is-date, unique, date-exists, number-of-date, number-high, year-of-months}
 
-pub leap-is : (y : ℕ) (r b : Bool) → r ≡ leap y → r ≡ b → leapDay y ≡ cond b 1 0
+leap-is : (y : ℕ) (r b : Bool) → r ≡ leap y → r ≡ b → leapDay y ≡ cond b 1 0
 unfolding leapDay
 leap-is y r b e q = ap (λ (t : Bool). cond t 1 0) (sym e ∙ q)
 
@@ -25,10 +25,14 @@ leap-small y = small (leap y)
     small true = lit≤ tt
     small false = lit≤ tt
 
--- The two tables.
-pub february : (y m : ℕ) → m ≡ 2 → monthLength y m ≡ 28 + leapDay y
+-- The two tables, and what is_leap answers: r, which is b.
+pub february : (y m : ℕ) (r b : Bool) → m ≡ 2 → r ≡ leap y → r ≡ b → cond b 29 28 ≡ monthLength y m
 unfolding monthLength
-february y m e = ap (monthLength y) e
+february y m r b e p q = by-leap b (leap-is y r b p q) ∙ sym (ap (monthLength y) e)
+  where
+    by-leap : (b : Bool) → leapDay y ≡ cond b 1 0 → cond b 29 28 ≡ 28 + leapDay y
+    by-leap true d = omega arith
+    by-leap false d = omega arith
 
 abbrev lengths : List ℕ
 lengths = 0 ∷ 31 ∷ 28 ∷ 31 ∷ 30 ∷ 31 ∷ 30 ∷ 31 ∷ 31 ∷ 30 ∷ 31 ∷ 30 ∷ 31 ∷ []
@@ -42,17 +46,18 @@ unfolding monthLength
 no-month y m h =
     List·getD-eq-default (0 ∷ 31 ∷ (28 + leapDay y) ∷ 31 ∷ 30 ∷ 31 ∷ 30 ∷ 31 ∷ 31 ∷ 30 ∷ 31 ∷ 30 ∷ 31 ∷ []) 0 h
 
-abbrev starts : List ℕ
+abbrev pub starts : List ℕ
 starts = 0 ∷ 31 ∷ 59 ∷ 90 ∷ 120 ∷ 151 ∷ 181 ∷ 212 ∷ 243 ∷ 273 ∷ 304 ∷ 334 ∷ 365 ∷ []
 
 pub before-march : (y k : ℕ) → k < 2 → getD starts k 0 ≡ total (monthLength y) k
 unfolding total monthLength
 before-march y k h = upto (λ (k : ℕ). getD starts k 0 ≡ total (monthLength y) k) 2 (omega arith) k h
 
-pub from-march : (y k : ℕ) → 2 ≤ k → k < 13 → getD starts k 0 + leapDay y ≡ total (monthLength y) k
+pub from-march : (y k : ℕ) (r b : Bool) → 2 ≤ k → k < 13 → r ≡ leap y → r ≡ b → getD starts k 0 + cond b 1 0 ≡ total (monthLength y) k
 unfolding total monthLength
-from-march y k l h =
-    upto (λ (k : ℕ). 2 ≤ k → getD starts k 0 + leapDay y ≡ total (monthLength y) k) 13 (omega arith) k h l
+from-march y k r b l h p q =
+    let d = leap-is y r b p q in
+    upto (λ (k : ℕ). 2 ≤ k → getD starts k 0 + cond b 1 0 ≡ total (monthLength y) k) 13 (omega arith) k h l
 
 pub starts-small : (k : ℕ) → k < 13 → getD starts k 0 < 366
 starts-small k h = upto (λ (k : ℕ). getD starts k 0 < 366) 13 (omega arith) k h

@@ -1,13 +1,13 @@
 -- The laws of weekdays.
 -- Assumes nothing.
-use Prim.Native.Nat.{ℕ, zero, suc, _+_, _*_, _%_, _≤_, _<_}
+use Prim.Native.Nat.{ℕ, zero, suc, _+_, _*_, _%_, _≤_}
 use mathlib.Core.Path.{_≡_, refl, ap, sym, _∙_}
 use mathlib.Core.Bool.{Bool, true, false, cond}
 use lib.Dec.{eqb}
 use native.Mathlib.Omega.{arith}
 use native.Mathlib.Numerals.{add-one}
 use borrow.Author.Tests.{eqb-true, eqb-false}
-use Rattle.gregorian.specs.Calendar.{dayNumber, total, yearLength, monthLength, nextWeekday, Weekdays, weekdayOf}
+use Rattle.gregorian.specs.Calendar.{dayNumber, total, nextWeekday, Weekdays, weekdayOf}
 use Rattle.gregorian.proofs.Years.{years-is}
 
 pub weekday-range : (n : ℕ) → weekdayOf n ≤ 6

@@ -1,5 +1,5 @@
-// The host's boundary: the calls that C or Rust makes, and how their answers cross. No call has a `requires`: every call takes
-// every number.
+// The host's boundary: the calls that C or Rust makes, and how their answers cross. Every call takes every number, so none has
+// a `requires`. Labels in brackets are those of docs/SCOPE.md.
 ghost use mathlib.Core.Path.{_≡_};
 ghost use Rattle.utils.specs.Weekday.{InYears, nthWeekdayOfMonth, lastWeekdayOfMonth};
 ghost use Rattle.utils.specs.Easter.{calculateEaster, calculateGoodFriday, calculateEasterMonday};
@@ -7,6 +7,7 @@ ghost use Rattle.trading_calendar.specs.Answers.{optionalDate};
 use gregorian::Date;
 use utils::OptionalDay;
 
+// found is 1 and date is the answer, or every field is 0.
 #[repr(C)]
 pub struct OptionalDate {
     pub found: u32,
@@ -33,6 +34,7 @@ fn optional_date(day: OptionalDay) -> OptionalDate
     }
 }
 
+// The nth weekday of a month [nth-weekday].
 #[no_mangle]
 pub extern "C" fn tc_nth_weekday_of_month(
     year: u32,
@@ -45,6 +47,7 @@ pub extern "C" fn tc_nth_weekday_of_month(
     optional_date(utils::nth_weekday_of_month(year, month, weekday, nth))
 }
 
+// The last weekday of a month [last-weekday].
 #[no_mangle]
 pub extern "C" fn tc_last_weekday_of_month(year: u32, month: u32, weekday: u32) -> OptionalDate
     ensures { λ r. ⌜ r ≡ optionalDate (lastWeekdayOfMonth year month weekday) ⌝ }
@@ -52,6 +55,7 @@ pub extern "C" fn tc_last_weekday_of_month(year: u32, month: u32, weekday: u32) 
     optional_date(utils::last_weekday_of_month(year, month, weekday))
 }
 
+// Easter Sunday [easter].
 #[no_mangle]
 pub extern "C" fn tc_calculate_easter(year: u32) -> OptionalDate
     ensures { λ r. ⌜ r ≡ optionalDate (calculateEaster year) ⌝ }
@@ -59,6 +63,7 @@ pub extern "C" fn tc_calculate_easter(year: u32) -> OptionalDate
     optional_date(utils::easter::calculate_easter(year))
 }
 
+// Two days before Easter Sunday [good-friday].
 #[no_mangle]
 pub extern "C" fn tc_calculate_good_friday(year: u32) -> OptionalDate
     ensures { λ r. ⌜ r ≡ optionalDate (calculateGoodFriday year) ⌝ }
@@ -66,6 +71,7 @@ pub extern "C" fn tc_calculate_good_friday(year: u32) -> OptionalDate
     optional_date(utils::easter::calculate_good_friday(year))
 }
 
+// The day after Easter Sunday [easter-monday].
 #[no_mangle]
 pub extern "C" fn tc_calculate_easter_monday(year: u32) -> OptionalDate
     ensures { λ r. ⌜ r ≡ optionalDate (calculateEasterMonday year) ⌝ }

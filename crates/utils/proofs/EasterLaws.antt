@@ -12,8 +12,8 @@ use Rattle.gregorian.proofs.Tests.{and-left, and-right}
 use Rattle.gregorian.proofs.Laws.{date-is, number-range}
 use Rattle.utils.specs.declared.OptionalDay.{OptionalDay}
 use Rattle.utils.specs.declared.OptionalDay.the-variants.{Day, None}
-use Rattle.utils.specs.Weekday.{InYears}
-use Rattle.utils.specs.Easter.{easter, moved, calculateEaster, calculateGoodFriday, calculateEasterMonday}
+use Rattle.utils.specs.Weekday.{InYears, mapDay}
+use Rattle.utils.specs.Easter.{easter, calculateEaster, calculateGoodFriday, calculateEasterMonday}
 use Rattle.utils.proofs.WeekdayLaws.{when-day}
 
 -- The days from 22 March to Easter: the algorithm's h + l - 7 * m.
@@ -129,7 +129,7 @@ easter-in-years y = easter-cases InYears y (calculateEaster y) refl tt (λ n d. 
 pub good-friday-in-years : (y : ℕ) → InYears (calculateGoodFriday y)
 unfolding calculateGoodFriday
 good-friday-in-years y =
-    easter-cases (λ r. InYears (moved (λ n. n - 2) r)) y (calculateEaster y) refl tt (λ n d. omega (arith, d .low, d .high))
+    easter-cases (λ r. InYears (mapDay (λ n. n - 2) r)) y (calculateEaster y) refl tt (λ n d. omega (arith, d .low, d .high))
 
 april-26 : (y : ℕ) → 1 ≤ y → y ≤ lastYear → isDate y 4 26 ≡ true
 unfolding monthLength
@@ -140,5 +140,5 @@ april-26 y l h =
 pub easter-monday-in-years : (y : ℕ) → InYears (calculateEasterMonday y)
 unfolding calculateEasterMonday dayNumber
 easter-monday-in-years y =
-    easter-cases (λ r. InYears (moved (λ n. n + 1) r)) y (calculateEaster y) refl tt
+    easter-cases (λ r. InYears (mapDay (λ n. n + 1) r)) y (calculateEaster y) refl tt
     (λ n d. omega (arith, d .is-easter, easter-range y, number-range y 4 26 (april-26 y (d .y-low) (d .y-high))))

@@ -1,20 +1,19 @@
 -- The laws of the nth and the last weekday of a month, for any weekday and month.
 -- Assumes nothing.
 use Prim.Native.Nat.{ℕ, zero, suc, _+_, _-_, _*_, _%_, _≤_, _<_}
-use mathlib.Core.Path.{_≡_, refl, ap, sym, _∙_, subst}
+use mathlib.Core.Path.{_≡_, refl, ap, ap₂, sym, _∙_, subst}
 use mathlib.Core.Bool.{Bool, true, false, cond, _&&_}
-use lib.Dec.{leb, ltb, eqb, lit≤}
+use lib.Dec.{leb, eqb}
 use native.Mathlib.Omega.{arith}
-use native.Mathlib.Decide.{decLt}
 use borrow.Author.Tests.{leb-true, eqb-true, eqb-false, le-leb, le-ltb, lt-ltb, eq-eqb, ne-eqb}
-use Rattle.gregorian.specs.Calendar.{monthLength, total, yearLength, dayNumber, lastDay, Exists, isDate, dayAfter, dateOf, date, weekdayOf}
+use Rattle.gregorian.specs.Calendar.{monthLength, dayNumber, lastDay, Exists, isDate, dayAfter, dateOf, date, weekdayOf}
 use Rattle.gregorian.specs.declared.Date.{Date}
 use Rattle.gregorian.proofs.Tests.{and-left, and-right}
 use Rattle.gregorian.proofs.Laws.{is-date, date-is, month-low, next-number, number-range, date-of-number}
 use Rattle.gregorian.proofs.Weekdays.{weekday-weeks}
 use Rattle.utils.specs.declared.OptionalDay.{OptionalDay}
 use Rattle.utils.specs.declared.OptionalDay.the-variants.{Day, None}
-use Rattle.utils.specs.Weekday.{firstFrom, targetDay, ifInMonth, nthWeekdayOfMonth, lastUpTo, nextMonth, nextYear, lastWeekdayOfMonth, InYears}
+use Rattle.utils.specs.Weekday.{firstFrom, targetDay, ifInMonth, nthWeekdayOfMonth, lastUpTo, nextMonth, nextYear, firstOfNext, lastWeekdayOfMonth, InYears, mapDay}
 
 -- what a test that leads to a day or to None says where there is a day
 pub when-day : (b : Bool) (x : OptionalDay) (t : ℕ) → cond b x None ≡ Day t → (b ≡ true) × (x ≡ Day t)
@@ -123,12 +122,36 @@ month-end y m h =
     month-end-by y m _ refl
     (record { y-low = x .y-low; m-low = x .m-low; m-high = x .m-high; d-low = omega (arith, month-low y m (x .m-low) (x .m-high)); d-high = omega arith })
 
--- the last day of the month is day 28 or later, so the loop has seven days to go back over
-pub last-of-month : (y m : ℕ) → isDate y m 1 ≡ true → 28 ≤ dayNumber (nextYear y m) (nextMonth m) 1 - 1
-unfolding dayNumber
-last-of-month y m h =
+-- first_of_next from the year and the month that it computes, where that is a month and where it is none
+module _ (y m y′ m′ : ℕ) (p : y′ ≡ nextYear y m) (q : m′ ≡ nextMonth m) where
+  next-first : cond (isDate y′ m′ 1) (Day (dayNumber y′ m′ 1)) None ≡ firstOfNext y m
+  unfolding firstOfNext
+  next-first = ap₂ (λ (i j : ℕ). cond (isDate i j 1) (Day (dayNumber i j 1)) None) p q
+
+  pub next-day : (r : ℕ) → isDate y′ m′ 1 ≡ true → r ≡ dayNumber y′ m′ 1 → Day r ≡ firstOfNext y m
+  next-day r e f = ap Day f ∙ (rw e at next-first)
+
+  pub next-none : isDate y′ m′ 1 ≡ false → None ≡ firstOfNext y m
+  next-none e = rw e at next-first
+
+-- What first_of_next says: it is the day after the last of the month, which is its 28th or later.
+pub record FirstOfNext (y m n : ℕ) : Type 0 where
+  pub after-last : n ≡ dayNumber y m (monthLength y m) + 1
+  pub after-28th : dayNumber y m 1 + 28 ≤ n
+  pub high : n ≤ lastDay
+
+pub first-of-next : (y m n : ℕ) → isDate y m 1 ≡ true → firstOfNext y m ≡ Day n → FirstOfNext y m n
+unfolding firstOfNext dayNumber
+first-of-next y m n h e =
+    let c = when-day (isDate (nextYear y m) (nextMonth m) 1) (Day (dayNumber (nextYear y m) (nextMonth m) 1)) n e in
+    let q : dayNumber (nextYear y m) (nextMonth m) 1 ≡ n = cc (c .1) in
     let x = is-date y m 1 h .exists in
-    omega (arith, month-end y m h, month-low y m (x .m-low) (x .m-high))
+    let f = month-end y m h in
+    record {
+      after-last = sym q ∙ f;
+      after-28th = omega (arith, q, f, month-low y m (x .m-low) (x .m-high));
+      high = omega (arith, q, number-range (nextYear y m) (nextMonth m) 1 (c .0));
+    }
 
 -- The last weekday is that weekday, in the month, and no later day of the month is one.
 pub record LastWeekday (y m w t : ℕ) : Type 0 where
@@ -139,35 +162,49 @@ pub record LastWeekday (y m w t : ℕ) : Type 0 where
 
 last-is : (w n : ℕ) → w ≤ 6 → 6 ≤ n → (weekdayOf (lastUpTo w n) ≡ w) × ((n ≤ lastUpTo w n + 6) × (lastUpTo w n ≤ n))
 unfolding weekdayOf
-last-is w n h l = let e = last-up-to w n h l in omega (arith, e)
+last-is w n h l =
+    let e = last-up-to w n h l in
+    omega (arith, e)
 
 last-none : (w n u : ℕ) → w ≤ 6 → 6 ≤ n → lastUpTo w n < u → u ≤ n → weekdayOf u ≡ w → ⊥
 unfolding weekdayOf
 last-none w n u h l k j e = omega (arith, last-up-to w n h l)
 
-pub last-weekday : (y m w t : ℕ) → lastWeekdayOfMonth y m w ≡ Day t → LastWeekday y m w t
-unfolding lastWeekdayOfMonth dayNumber
-last-weekday y m w t e =
-    let n = dayNumber (nextYear y m) (nextMonth m) 1 - 1 in
-    let c = when-day (isDate y m 1 && leb w 6 && isDate (nextYear y m) (nextMonth m) 1) (Day (lastUpTo w n)) t e in
-    let q : lastUpTo w n ≡ t = cc (c .1) in
-    let d = and-left (isDate y m 1 && leb w 6) _ (c .0) in
-    let h = and-left (isDate y m 1) _ d in
-    let w6 = leb-true w 6 (and-right (isDate y m 1) _ d) in
-    let x = is-date y m 1 h .exists in
-    let o = last-of-month y m h in
-    let f = month-end y m h in
-    let g = month-low y m (x .m-low) (x .m-high) in
-    let i = last-is w n w6 (omega (arith, o)) in
+in-month : (y m w n : ℕ) → w ≤ 6 → FirstOfNext y m n → LastWeekday y m w (lastUpTo w (n - 1))
+in-month y m w n w6 f =
+    let i = last-is w (n - 1) w6 (omega (arith, f .after-28th)) in
     record {
-      weekday = ap weekdayOf (sym q) ∙ i .0;
-      from-first = omega (arith, f, g, i, q);
-      to-last = omega (arith, f, i, q);
-      greatest = λ u a b. last-none w n u w6 (omega (arith, o)) (omega (arith, q)) (omega (arith, f));
+      weekday = i .0;
+      from-first = omega (arith, f .after-28th, i);
+      to-last = omega (arith, f .after-last, f .after-28th, i);
+      greatest = λ u a b. last-none w (n - 1) u w6 (omega (arith, f .after-28th)) a (omega (arith, f .after-last));
     }
 
+-- What last_weekday_of_month answers is none, or has what is claimed of each such day.
+last-cases : (P : OptionalDay → Type 0) (y m w : ℕ) → P None → ((n : ℕ) → FirstOfNext y m n → LastWeekday y m w (lastUpTo w (n - 1)) → P (Day (lastUpTo w (n - 1)))) → P (lastWeekdayOfMonth y m w)
+unfolding lastWeekdayOfMonth
+last-cases P y m w z h = by-test _ _ refl refl
+  where
+    by-test : (b : Bool) (r : OptionalDay) → (isDate y m 1 && leb w 6) ≡ b → firstOfNext y m ≡ r → P (cond b (mapDay (λ n. lastUpTo w (n - 1)) r) None)
+    by-test false r e q = z
+    by-test true None e q = z
+    by-test true (Day n) e q =
+        let f = first-of-next y m n (and-left (isDate y m 1) _ e) q in
+        h n f (in-month y m w n (leb-true w 6 (and-right (isDate y m 1) _ e)) f)
+
+pub last-weekday : (y m w t : ℕ) → lastWeekdayOfMonth y m w ≡ Day t → LastWeekday y m w t
+last-weekday y m w =
+    last-cases (λ r. (t : ℕ) → r ≡ Day t → LastWeekday y m w t) y m w (λ t e. absurd (never t e))
+    (λ n f l t e. subst (LastWeekday y m w) (same t e) l)
+  where
+    never : (t : ℕ) → None ≡ Day t → ⊥
+    never t e = let z : _≡_ {A = ℕ} 0 1 = cc in omega arith
+
+    same : {s : ℕ} (t : ℕ) → Day s ≡ Day t → s ≡ t
+    same t e = cc
+
 -- Each answer is a day of years 1 to 9999, or none.
-pub when-in-years : (b : Bool) (x : OptionalDay) → (b ≡ true → InYears x) → InYears (cond b x None)
+when-in-years : (b : Bool) (x : OptionalDay) → (b ≡ true → InYears x) → InYears (cond b x None)
 when-in-years true x h = h refl
 when-in-years false x h = tt
 
@@ -176,17 +213,13 @@ unfolding nthWeekdayOfMonth ifInMonth targetDay
 nth-in-years y m w n =
     let s = firstFrom (dayNumber y m 1) w in
     when-in-years (isDate y m 1 && leb w 6 && leb 1 n) _
-    (λ c. when-in-years (leb (s + 7 * (n - 1)) lastDay && eqb (dateOf (s + 7 * (n - 1)) .month) m) _
-    (λ d. (omega (arith, first-near (dayNumber y m 1) w, number-range y m 1 (and-left (isDate y m 1) _ (and-left (isDate y m 1 && leb w 6) _ c))), leb-true _ lastDay (and-left (leb (s + 7 * (n - 1)) lastDay) _ d))))
+    (λ c.
+    let h = and-left (isDate y m 1) _ (and-left (isDate y m 1 && leb w 6) _ c) in
+    when-in-years (leb (s + 7 * (n - 1)) lastDay && eqb (dateOf (s + 7 * (n - 1)) .month) m) _
+    (λ d. (omega (arith, first-near (dayNumber y m 1) w, number-range y m 1 h), leb-true _ lastDay (and-left (leb (s + 7 * (n - 1)) lastDay) _ d))))
 
 pub last-in-years : (y m w : ℕ) → InYears (lastWeekdayOfMonth y m w)
-unfolding lastWeekdayOfMonth
+unfolding dayNumber
 last-in-years y m w =
-    let n = dayNumber (nextYear y m) (nextMonth m) 1 - 1 in
-    when-in-years (isDate y m 1 && leb w 6 && isDate (nextYear y m) (nextMonth m) 1) (Day (lastUpTo w n))
-    (λ c.
-    let d = and-left (isDate y m 1 && leb w 6) _ c in
-    let o = last-of-month y m (and-left (isDate y m 1) _ d) in
-    let i = last-is w n (leb-true w 6 (and-right (isDate y m 1) _ d)) (omega (arith, o)) in
-    let r = number-range (nextYear y m) (nextMonth m) 1 (and-right (isDate y m 1 && leb w 6) _ c) in
-    (omega (arith, o, i), omega (arith, i, r)))
+    last-cases InYears y m w tt
+    (λ n f l. (omega (arith, l .from-first), omega (arith, l .to-last, f .after-last, f .high)))

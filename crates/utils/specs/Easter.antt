@@ -5,6 +5,7 @@ use lib.Dec.{leb}
 use Rattle.gregorian.specs.Calendar.{lastYear, dayNumber}
 use Rattle.utils.specs.declared.OptionalDay.{OptionalDay}
 use Rattle.utils.specs.declared.OptionalDay.the-variants.{Day, None}
+use Rattle.utils.specs.Weekday.{mapDay}
 
 -- The Anonymous Gregorian (Meeus/Jones/Butcher) algorithm, in the Rust's letters: Easter Sunday's day number. No difference
 -- falls below 0: the code has the same ones on u32, and its proof shows each.
@@ -30,15 +31,10 @@ easter year =
 unfoldable pub calculateEaster : ℕ → OptionalDay
 calculateEaster year = cond (leb 1 year && leb year lastYear) (Day (easter year)) None
 
--- the Rust's `?`: None stays None
-abbrev pub moved : (ℕ → ℕ) → OptionalDay → OptionalDay
-moved f (Day n) = Day (f n)
-moved f None = None
-
 -- `calculate_easter(year)? - Duration::days(2)`
 unfoldable pub calculateGoodFriday : ℕ → OptionalDay
-calculateGoodFriday year = moved (λ n. n - 2) (calculateEaster year)
+calculateGoodFriday year = mapDay (λ n. n - 2) (calculateEaster year)
 
 -- `calculate_easter(year)? + Duration::days(1)`
 unfoldable pub calculateEasterMonday : ℕ → OptionalDay
-calculateEasterMonday year = moved (λ n. n + 1) (calculateEaster year)
+calculateEasterMonday year = mapDay (λ n. n + 1) (calculateEaster year)

@@ -12,6 +12,11 @@ abbrev pub InYears : OptionalDay → Type 0
 InYears (Day n) = (1 ≤ n) × (n ≤ lastDay)
 InYears None = Unit {0}
 
+-- the Rust's `?`, and what follows it: None stays None
+abbrev pub mapDay : (ℕ → ℕ) → OptionalDay → OptionalDay
+mapDay f (Day n) = Day (f n)
+mapDay f None = None
+
 -- The first day from day s on that is a w: the Rust's first_day plus days_to_add.
 unfoldable pub firstFrom : ℕ → ℕ → ℕ
 firstFrom s w = s + (w + 7 - weekdayOf s) % 7
@@ -39,10 +44,12 @@ nextMonth m = cond (eqb m 12) 1 (m + 1)
 abbrev pub nextYear : ℕ → ℕ → ℕ
 nextYear y m = cond (eqb m 12) (y + 1) y
 
--- last_weekday_of_month, from the day before first_of_next back; None where first_of_next lies past 9999-12-31, for a
--- weekday above 6, and for a month or a year outside (added)
+-- first_of_next: the first of the next month; None past 9999-12-31 (added)
+unfoldable pub firstOfNext : ℕ → ℕ → OptionalDay
+firstOfNext y m = cond (isDate (nextYear y m) (nextMonth m) 1) (Day (dayNumber (nextYear y m) (nextMonth m) 1)) None
+
+-- last_weekday_of_month, from the day before first_of_next back; None also for a weekday above 6, and a month or a year
+-- outside (added)
 unfoldable pub lastWeekdayOfMonth : ℕ → ℕ → ℕ → OptionalDay
 lastWeekdayOfMonth y m w =
-    cond (isDate y m 1 && leb w 6 && isDate (nextYear y m) (nextMonth m) 1)
-    (Day (lastUpTo w (dayNumber (nextYear y m) (nextMonth m) 1 - 1)))
-    None
+    cond (isDate y m 1 && leb w 6) (mapDay (λ n. lastUpTo w (n - 1)) (firstOfNext y m)) None

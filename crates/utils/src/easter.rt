@@ -1,4 +1,5 @@
-// Easter by the Anonymous Gregorian algorithm, Good Friday and Easter Monday.
+// Easter by the Anonymous Gregorian algorithm, Good Friday and Easter Monday: docs/SCOPE.md [easter], [good-friday],
+// [easter-monday].
 ghost use mathlib.Core.Path.{_≡_};
 ghost use Rattle.utils.specs.Easter.{calculateEaster, calculateGoodFriday, calculateEasterMonday};
 use crate::OptionalDay;

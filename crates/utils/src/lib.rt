@@ -1,11 +1,12 @@
-// Utility functions for calendar operations: the nth and the last weekday of a month, and Easter.
+// The nth and the last weekday of a month, and Easter, as src/utils of the Rust has them. Labels in brackets are those of
+// docs/SCOPE.md.
 pub mod easter;
 
 ghost use mathlib.Core.Path.{_≡_};
 ghost use mathlib.Core.Bool.{true};
 ghost use Prim.Native.Nat.{_≤_};
 ghost use Rattle.gregorian.specs.Calendar.{isDate};
-ghost use Rattle.utils.specs.Weekday.{targetDay, ifInMonth, nthWeekdayOfMonth, nextMonth, nextYear, lastUpTo, lastWeekdayOfMonth};
+ghost use Rattle.utils.specs.Weekday.{targetDay, ifInMonth, nthWeekdayOfMonth, nextMonth, nextYear, firstOfNext, lastUpTo, lastWeekdayOfMonth};
 
 // In the place of the Rust's Option<NaiveDate>: a day number, or none.
 pub enum OptionalDay {
@@ -39,6 +40,7 @@ fn if_in_month(month: u32, target: u32) -> OptionalDay
     }
 }
 
+// [nth-weekday]
 pub fn nth_weekday_of_month(year: u32, month: u32, weekday: u32, nth: u8) -> OptionalDay
     ensures { λ r. ⌜ r ≡ nthWeekdayOfMonth year month weekday nth ⌝ }
 {
@@ -68,6 +70,19 @@ fn next_year(year: u32, month: u32) -> u32
     if month == 12 { year + 1 } else { year }
 }
 
+fn first_of_next(year: u32, month: u32) -> OptionalDay
+    requires { ⌜ isDate year month 1 ≡ true ⌝ }
+    ensures { λ r. ⌜ r ≡ firstOfNext year month ⌝ }
+{
+    let next_month = next_month(month);
+    let next_year = next_year(year, month);
+    if gregorian::is_date(next_year, next_month, 1) {
+        OptionalDay::Day(gregorian::day_number(next_year, next_month, 1))
+    } else {
+        OptionalDay::None
+    }
+}
+
 // The last such weekday up to day n: one of the seven days that end there.
 fn last_up_to(weekday: u32, n: u32) -> u32
     requires { ⌜ (weekday ≤ 6) × (7 ≤ n) ⌝ }
@@ -76,6 +91,7 @@ fn last_up_to(weekday: u32, n: u32) -> u32
     n - (gregorian::weekday(n) + 7 - weekday) % 7
 }
 
+// [last-weekday]
 pub fn last_weekday_of_month(year: u32, month: u32, weekday: u32) -> OptionalDay
     ensures { λ r. ⌜ r ≡ lastWeekdayOfMonth year month weekday ⌝ }
 {
@@ -85,11 +101,8 @@ pub fn last_weekday_of_month(year: u32, month: u32, weekday: u32) -> OptionalDay
     if 6 < weekday {
         return OptionalDay::None;
     }
-    let next_month = next_month(month);
-    let next_year = next_year(year, month);
-    if !gregorian::is_date(next_year, next_month, 1) {
+    let OptionalDay::Day(first_of_next) = first_of_next(year, month) else {
         return OptionalDay::None;
-    }
-    let first_of_next = gregorian::day_number(next_year, next_month, 1);
+    };
     OptionalDay::Day(last_up_to(weekday, first_of_next - 1))
 }

@@ -1,5 +1,6 @@
-use Rattle.gregorian.proofs.Formulas.{date-parts, rest}
+-- `gregorian::date_of` meets its contract: the year, the month and the rest make the one date with that number.
 use borrow.Author.Needs.{needs}
+use Rattle.gregorian.proofs.Formulas.{date-parts, rest}
 use Rattle.gregorian.proofs.date_of.Statement.{statement}
 use Rattle.gregorian.proofs.date_of.Tie as tie
 

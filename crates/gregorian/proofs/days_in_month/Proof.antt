@@ -1,16 +1,21 @@
-use mathlib.Core.Bool.{true, false}
-use mathlib.Core.Path.{ap, _∙_, sym}
-use native.Mathlib.Omega.{arith}
-use Rattle.gregorian.proofs.Formulas.{leap-is, february, other-month, no-month}
+-- `gregorian::days_in_month` meets its contract: February by the leap year, the other months by the table, and 0 past December.
+use mathlib.Core.Path.{_≡_, sym}
+use mathlib.Core.Bool.{Bool, true, false, cond}
 use borrow.Author.Needs.{needs}
+use Rattle.gregorian.specs.Calendar.{monthLength}
+use Rattle.gregorian.proofs.Formulas.{february, other-month, no-month}
 use Rattle.gregorian.proofs.days_in_month.Statement.{statement}
 use Rattle.gregorian.proofs.days_in_month.Tie as tie
 
+-- February, by what is_leap answered
+in-february : (c : tie.After-is-leap) (b : Bool) → c .is-leap .result ≡ b → cond b 29 28 ≡ monthLength (c .before .before .args .year) (c .before .before .args .month)
+in-february c b e = february _ _ _ b (c .before .if1 .taken) (c .is-leap .ensures) e
+
 returns : tie.Need-returns
-returns c = omega (arith, february (c .before .before .before .args .year) (c .before .before .before .args .month) (c .before .before .if1 .taken), leap-is (c .before .before .before .args .year) (c .before .is-leap .result) true (c .before .is-leap .ensures) (c .if2 .taken))
+returns c = in-february (c .before) true (c .if2 .taken)
 
 returns-2 : tie.Need-returns-2
-returns-2 c = omega (arith, february (c .before .before .before .args .year) (c .before .before .before .args .month) (c .before .before .if1 .taken), leap-is (c .before .before .before .args .year) (c .before .is-leap .result) false (c .before .is-leap .ensures) (c .if2 .left))
+returns-2 c = in-february (c .before) false (c .if2 .left)
 
 returns-3 : tie.Need-returns-3
 returns-3 c = other-month (c .before .before .args .year) (c .before .before .args .month) (c .if3 .taken) (c .before .if1 .left)

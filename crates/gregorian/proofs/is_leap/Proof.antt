@@ -1,3 +1,4 @@
+-- `gregorian::is_leap` meets its contract: at each return, the test of 100 says which test is left.
 use borrow.Author.Tests.{eq-eqb, ne-eqb}
 use Rattle.gregorian.specs.Calendar.{leap}
 use Rattle.gregorian.proofs.is_leap.Statement.{statement}

@@ -1,5 +1,6 @@
-use Rattle.gregorian.proofs.Formulas.{month-one-low, month-right, guess-small}
+-- `gregorian::month_of` meets its contract: the guess is right or one too low, and the test tells which.
 use borrow.Author.Needs.{needs}
+use Rattle.gregorian.proofs.Formulas.{month-one-low, month-right, guess-small}
 use Rattle.gregorian.proofs.month_of.Statement.{statement}
 use Rattle.gregorian.proofs.month_of.Tie as tie
 

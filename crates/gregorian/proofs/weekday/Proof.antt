@@ -1,6 +1,7 @@
+-- `gregorian::weekday` meets its contract: the remainder is taken first, so that no sum wraps.
 use native.Mathlib.Omega.{arith}
-use Rattle.gregorian.specs.Calendar.{weekdayOf}
 use borrow.Author.Needs.{needs}
+use Rattle.gregorian.specs.Calendar.{weekdayOf}
 use Rattle.gregorian.proofs.weekday.Statement.{statement}
 use Rattle.gregorian.proofs.weekday.Tie as tie
 

@@ -1,5 +1,6 @@
-use Rattle.gregorian.proofs.Formulas.{year-one-low, year-right}
+-- `gregorian::year_of` meets its contract: the guess is right or one too low, and the test tells which.
 use borrow.Author.Needs.{needs}
+use Rattle.gregorian.proofs.Formulas.{year-one-low, year-right}
 use Rattle.gregorian.proofs.year_of.Statement.{statement}
 use Rattle.gregorian.proofs.year_of.Tie as tie
 

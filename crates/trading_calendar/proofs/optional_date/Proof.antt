@@ -1,11 +1,12 @@
+-- `trading_calendar::optional_date` meets its contract: both arms; the day is in years 1 to 9999.
 use mathlib.Core.Path.{_≡_, ap, _∙_, subst}
-use Rattle.utils.specs.declared.OptionalDay.the-variants.{Day, None}
-use Rattle.gregorian.specs.declared.Date.{Date}
-use Rattle.trading_calendar.specs.declared.OptionalDate.{OptionalDate}
-use mathlib.Core.Path.{ap, sym, _∙_, subst}
-use Rattle.utils.specs.Weekday.{InYears}
-use Rattle.trading_calendar.specs.Answers.{optionalDate}
+use mathlib.Core.Path.{ap, _∙_, subst}
 use borrow.Author.Needs.{needs}
+use Rattle.gregorian.specs.declared.Date.{Date}
+use Rattle.utils.specs.declared.OptionalDay.the-variants.{Day, None}
+use Rattle.utils.specs.Weekday.{InYears}
+use Rattle.trading_calendar.specs.declared.OptionalDate.{OptionalDate}
+use Rattle.trading_calendar.specs.Answers.{optionalDate}
 use Rattle.trading_calendar.proofs.optional_date.Statement.{statement}
 use Rattle.trading_calendar.proofs.optional_date.Tie as tie
 

@@ -1,7 +1,8 @@
+-- `trading_calendar::tc_nth_weekday_of_month` meets its contract: the answer is a day of years 1 to 9999, or none.
 use mathlib.Core.Path.{sym, subst}
+use borrow.Author.Needs.{needs}
 use Rattle.utils.specs.Weekday.{InYears}
 use Rattle.utils.proofs.WeekdayLaws.{nth-in-years}
-use borrow.Author.Needs.{needs}
 use Rattle.trading_calendar.proofs.tc_nth_weekday_of_month.Statement.{statement}
 use Rattle.trading_calendar.proofs.tc_nth_weekday_of_month.Tie as tie
 

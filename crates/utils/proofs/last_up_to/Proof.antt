@@ -1,9 +1,10 @@
+-- `utils::last_up_to` meets its contract: the loop of the definition, in closed form.
 use Prim.Native.Nat.{ℕ, _+_, _-_, _%_}
-use native.Mathlib.Omega.{arith}
 use mathlib.Core.Path.{ap, sym, _∙_}
+use native.Mathlib.Omega.{arith}
+use borrow.Author.Needs.{needs}
 use Rattle.gregorian.proofs.Weekdays.{weekday-range}
 use Rattle.utils.proofs.WeekdayLaws.{last-up-to}
-use borrow.Author.Needs.{needs}
 use Rattle.utils.proofs.last_up_to.Statement.{statement}
 use Rattle.utils.proofs.last_up_to.Tie as tie
 

@@ -1,15 +1,24 @@
-use Prim.Native.Nat.{ℕ, _-_}
-use mathlib.Core.Path.{ap, ap₂, sym, _∙_}
+-- `utils::last_weekday_of_month` meets its contract: each return answers by the tests before it, and the month has seven days to
+-- go back over.
+use mathlib.Core.Path.{_≡_, ap, sym, _∙_}
+use mathlib.Core.Bool.{true}
 use native.Mathlib.Omega.{arith}
 use borrow.Author.Tests.{not-true, not-false, lt-leb, le-leb}
 use borrow.Author.Needs.{needs}
-use Rattle.gregorian.specs.Calendar.{isDate, dayNumber}
-use Rattle.gregorian.proofs.Laws.{is-date}
-use Rattle.utils.specs.declared.OptionalDay.the-variants.{Day}
-use Rattle.utils.specs.Weekday.{lastUpTo, lastWeekdayOfMonth}
-use Rattle.utils.proofs.WeekdayLaws.{last-of-month}
+use Rattle.gregorian.specs.Calendar.{isDate}
+use Rattle.utils.specs.declared.OptionalDay.the-variants.{Day, None}
+use Rattle.utils.specs.Weekday.{firstOfNext, lastWeekdayOfMonth}
+use Rattle.utils.proofs.WeekdayLaws.{first-of-next}
 use Rattle.utils.proofs.last_weekday_of_month.Statement.{statement}
 use Rattle.utils.proofs.last_weekday_of_month.Tie as tie
+
+-- past the first test, the month is one
+is-month : (c : tie.Else1) → isDate (c .before .before .args .year) (c .before .before .args .month) 1 ≡ true
+is-month c = sym (c .before .is-date .ensures) ∙ not-false _ (c .if1 .left)
+
+-- what is known of the first of the next month, where there is one
+known : (c : tie.After-known-told) → firstOfNext (c .before .before .before .before .before .before .before .args .year) (c .before .before .before .before .before .before .before .args .month) ≡ Day (c .before .first-of-next2 .given .0 .0)
+known c = cc
 
 returns : tie.Need-returns
 unfolding lastWeekdayOfMonth
@@ -17,35 +26,36 @@ returns c = simp (sym (c .before .is-date .ensures) ∙ not-true _ (c .if1 .take
 
 returns-2 : tie.Need-returns-2
 unfolding lastWeekdayOfMonth
-returns-2 c = simp (sym (c .before .before .is-date .ensures) ∙ not-false _ (c .before .if1 .left), lt-leb _ _ (c .if2 .taken))
+returns-2 c = simp (is-month (c .before), lt-leb _ _ (c .if2 .taken))
 
-next-month-requires : tie.Need-next-month-requires
-next-month-requires c κs = is-date _ _ _ (sym (c .before .before .is-date .ensures) ∙ not-false _ (c .before .if1 .left)) .exists .m-high
-
-next-year-requires : tie.Need-next-year-requires
-next-year-requires c κs = is-date _ _ _ (sym (c .before .before .before .is-date .ensures) ∙ not-false _ (c .before .before .if1 .left)) .y-high
+first-of-next-requires : tie.Need-first-of-next-requires
+first-of-next-requires c κs = is-month (c .before)
 
 returns-3 : tie.Need-returns-3
 unfolding lastWeekdayOfMonth
-returns-3 c = simp (sym (c .before .before .before .before .before .before .is-date .ensures) ∙ not-false _ (c .before .before .before .before .before .if1 .left), le-leb _ _ (c .before .before .before .before .if2 .left), ap₂ (λ (y m : ℕ). isDate y m 1) (sym (c .before .before .next-year .ensures)) (sym (c .before .before .before .next-month .ensures)) ∙ sym (c .before .is-date2 .ensures) ∙ not-true _ (c .if3 .taken))
-
-day-number-requires : tie.Need-day-number-requires
-day-number-requires c κs = sym (c .before .is-date2 .ensures) ∙ not-false _ (c .if3 .left)
+returns-3 c =
+    let s = c .before .before .before in
+    let e : firstOfNext (s .before .before .before .args .year) (s .before .before .before .args .month) ≡ None = cc in
+    simp (is-month (s .before), le-leb _ _ (s .if2 .left), e)
 
 sub-last-up-to : tie.Need-sub-last-up-to
-sub-last-up-to c = omega (arith, c .day-number .ensures ∙ ap₂ (λ (y m : ℕ). dayNumber y m 1) (c .before .before .before .next-year .ensures) (c .before .before .before .before .next-month .ensures), last-of-month (c .before .before .before .before .before .before .before .before .args .year) (c .before .before .before .before .before .before .before .before .args .month) (sym (c .before .before .before .before .before .before .before .is-date .ensures) ∙ not-false _ (c .before .before .before .before .before .before .if1 .left)))
+sub-last-up-to c =
+    let s = c .before .before .before .before in
+    omega (arith, first-of-next _ _ _ (is-month (s .before)) (known c) .after-28th)
 
 last-up-to-requires : tie.Need-last-up-to-requires
-last-up-to-requires c κs = (c .before .before .before .before .before .if2 .left, omega (arith, c .day-number .ensures ∙ ap₂ (λ (y m : ℕ). dayNumber y m 1) (c .before .before .before .next-year .ensures) (c .before .before .before .before .next-month .ensures), last-of-month (c .before .before .before .before .before .before .before .before .args .year) (c .before .before .before .before .before .before .before .before .args .month) (sym (c .before .before .before .before .before .before .before .is-date .ensures) ∙ not-false _ (c .before .before .before .before .before .before .if1 .left))))
+last-up-to-requires c κs =
+    let s = c .before .before .before .before in
+    (s .if2 .left, omega (arith, first-of-next _ _ _ (is-month (s .before)) (known c) .after-28th))
 
 returns-4 : tie.Need-returns-4
 unfolding lastWeekdayOfMonth
 returns-4 c =
-    simp (sym (c .before .before .before .before .before .before .before .before .is-date .ensures) ∙ not-false _ (c .before .before .before .before .before .before .before .if1 .left), le-leb _ _ (c .before .before .before .before .before .before .if2 .left), ap₂ (λ (y m : ℕ). isDate y m 1) (sym (c .before .before .before .before .next-year .ensures)) (sym (c .before .before .before .before .before .next-month .ensures)) ∙ sym (c .before .before .before .is-date2 .ensures) ∙ not-false _ (c .before .before .if3 .left))
-    (ap Day (c .last-up-to .ensures ∙ ap (λ (n : ℕ). lastUpTo (c .before .before .before .before .before .before .before .before .before .args .weekday) (n - 1)) (c .before .day-number .ensures ∙ ap₂ (λ (y m : ℕ). dayNumber y m 1) (c .before .before .before .before .next-year .ensures) (c .before .before .before .before .before .next-month .ensures))))
+    let s = c .before .before .before .before .before in
+    simp (is-month (s .before), le-leb _ _ (s .if2 .left), known (c .before)) (ap Day (c .last-up-to .ensures))
 
 pub last-weekday-of-month-spec : {M : Type 1} → statement M
 last-weekday-of-month-spec =
     tie.close
-    (tie.spec (search needs) returns returns-2 next-month-requires next-year-requires (search needs)
-    returns-3 day-number-requires sub-last-up-to last-up-to-requires returns-4)
+    (tie.spec (search needs) returns returns-2 first-of-next-requires (search needs) (search needs)
+    returns-3 sub-last-up-to last-up-to-requires returns-4)

@@ -1,3 +1,4 @@
+-- `utils::next_year` meets its contract: both arms.
 use borrow.Author.Tests.{eq-eqb, ne-eqb}
 use borrow.Author.Needs.{needs}
 use Rattle.utils.proofs.next_year.Statement.{statement}

@@ -1,10 +1,17 @@
+-- `utils::nth_weekday_of_month` meets its contract: each return answers by the tests before it.
+use mathlib.Core.Path.{_≡_, ap, sym, _∙_}
+use mathlib.Core.Bool.{true}
 use native.Mathlib.Omega.{arith}
-use mathlib.Core.Path.{ap, sym, _∙_}
 use borrow.Author.Tests.{not-true, not-false, lt-leb, le-leb}
-use Rattle.utils.specs.Weekday.{ifInMonth, nthWeekdayOfMonth}
 use borrow.Author.Needs.{needs}
+use Rattle.gregorian.specs.Calendar.{isDate}
+use Rattle.utils.specs.Weekday.{ifInMonth, nthWeekdayOfMonth}
 use Rattle.utils.proofs.nth_weekday_of_month.Statement.{statement}
 use Rattle.utils.proofs.nth_weekday_of_month.Tie as tie
+
+-- past the first test, the month is one
+is-month : (c : tie.Else1) → isDate (c .before .before .args .year) (c .before .before .args .month) 1 ≡ true
+is-month c = sym (c .before .is-date .ensures) ∙ not-false _ (c .if1 .left)
 
 returns : tie.Need-returns
 unfolding nthWeekdayOfMonth
@@ -12,19 +19,20 @@ returns c = simp (sym (c .before .is-date .ensures) ∙ not-true _ (c .if1 .take
 
 returns-2 : tie.Need-returns-2
 unfolding nthWeekdayOfMonth
-returns-2 c = simp (sym (c .before .before .is-date .ensures) ∙ not-false _ (c .before .if1 .left), lt-leb (c .before .before .before .args .weekday) 6 (omega arith))
+returns-2 c = simp (is-month (c .before), lt-leb _ _ (c .if2 .taken))
 
 returns-3 : tie.Need-returns-3
 unfolding nthWeekdayOfMonth
-returns-3 c = simp (sym (c .before .before .before .is-date .ensures) ∙ not-false _ (c .before .before .if1 .left), le-leb (c .before .before .before .before .args .weekday) 6 (omega arith), lt-leb 1 (c .before .before .before .before .args .nth) (omega arith))
+returns-3 c = simp (is-month (c .before .before), le-leb _ _ (c .before .if2 .left), lt-leb 1 (c .before .before .before .before .args .nth) (omega arith))
 
 target-day-requires : tie.Need-target-day-requires
-target-day-requires c κs = (sym (c .before .before .before .is-date .ensures) ∙ not-false _ (c .before .before .if1 .left), omega arith, omega arith)
+target-day-requires c κs = (is-month (c .before .before), omega arith, omega arith)
 
 returns-4 : tie.Need-returns-4
 unfolding nthWeekdayOfMonth
 returns-4 c =
-    simp (sym (c .before .before .before .before .before .is-date .ensures) ∙ not-false _ (c .before .before .before .before .if1 .left), le-leb (c .before .before .before .before .before .before .args .weekday) 6 (omega arith), le-leb 1 (c .before .before .before .before .before .before .args .nth) (omega arith))
+    let s = c .before .before in
+    simp (is-month (s .before .before), le-leb _ _ (s .before .if2 .left), le-leb 1 (s .before .before .before .before .args .nth) (omega arith))
     (c .if-in-month .ensures ∙ ap (ifInMonth _) (c .before .target-day .ensures .0))
 
 pub nth-weekday-of-month-spec : {M : Type 1} → statement M

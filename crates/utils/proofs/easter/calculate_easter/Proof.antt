@@ -1,11 +1,12 @@
+-- `utils::easter::calculate_easter` meets its contract: no difference falls below 0, the month and the day are a date, and the letters are the definition's.
 use mathlib.Core.Path.{ap}
 use native.Mathlib.Omega.{arith}
 use borrow.Author.Tests.{lt-leb, le-leb}
+use borrow.Author.Needs.{needs}
 use Rattle.gregorian.specs.Calendar.{lastYear}
 use Rattle.utils.specs.declared.OptionalDay.the-variants.{Day}
 use Rattle.utils.specs.Easter.{easter, calculateEaster}
 use Rattle.utils.proofs.EasterLaws.{l-difference, n-fits, at-most-35, days-date}
-use borrow.Author.Needs.{needs}
 use Rattle.utils.proofs.easter.calculate_easter.Statement.{statement}
 use Rattle.utils.proofs.easter.calculate_easter.Tie as tie
 
