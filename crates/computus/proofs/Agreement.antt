@@ -11,9 +11,9 @@ use Rattle.gregorian.proofs.Tests.{every, every-at}
 use Rattle.gregorian.proofs.Years.{years, years-is}
 use Rattle.utils.specs.declared.OptionalDay.the-variants.{Day}
 use Rattle.utils.specs.Weekday.{firstFrom}
-use Rattle.utils.specs.Easter.{easter, calculateEaster}
+use Rattle.utils.specs.Easter.{moonDays, easter, calculateEaster}
 use Rattle.utils.proofs.WeekdayLaws.{first-is}
-use Rattle.utils.proofs.EasterLaws.{daysAfter, easter-days, easter-range, easter-found}
+use Rattle.utils.proofs.EasterLaws.{daysAfter, easterDays, easter-days, easter-range, easter-found}
 use Rattle.computus.specs.Computus.{goldenNumber, century, solarCorrection, lunarCorrection, meanEpact, epact, fullMoon, computus, EasterSunday}
 
 march-22 : (y : ℕ) → dayNumber y 3 22 ≡ years (y - 1) + (81 + leapDay y)
@@ -24,10 +24,10 @@ march-22 y = omega (arith, years-is (y - 1))
 agrees : ℕ → Bool
 agrees y =
     let p = (53 - epact y) % 30 in
-    eqb (daysAfter y) (p + (13 - (years (y - 1) + (81 + leapDay y) + p + 6) % 7) % 7)
+    eqb (easterDays y) (p + (13 - (years (y - 1) + (81 + leapDay y) + p + 6) % 7) % 7)
 
 all-agree : every agrees lastYear ≡ true
-unfolding every agrees daysAfter leapDay leap goldenNumber century solarCorrection lunarCorrection meanEpact epact
+unfolding every agrees daysAfter moonDays leapDay leap goldenNumber century solarCorrection lunarCorrection meanEpact epact
 all-agree = refl
 
 -- With n the number of 22 March and the full moon p days after the 21st, the test says that n + x is the Sunday after it.
@@ -42,9 +42,9 @@ easter-computus : (y : ℕ) → 1 ≤ y → y ≤ lastYear → easter y ≡ comp
 unfolding agrees computus firstFrom weekdayOf
 easter-computus y l h =
     let p = (53 - epact y) % 30 in
-    let t = eqb-true (daysAfter y) _ (every-at agrees lastYear all-agree y l h) in
+    let t = eqb-true (easterDays y) _ (every-at agrees lastYear all-agree y l h) in
     let e = ap (λ (n : ℕ). p + (13 - (n + p + 6) % 7) % 7) (march-22 y) in
-    easter-days y ∙ sunday-after (dayNumber y 3 22) p (daysAfter y) (t ∙ sym e) ∙ ap (λ (s : ℕ). s + (6 + 7 - (s + 6) % 7) % 7) (sym (moon-next y))
+    easter-days y ∙ sunday-after (dayNumber y 3 22) p (easterDays y) (t ∙ sym e) ∙ ap (λ (s : ℕ). s + (6 + 7 - (s + 6) % 7) % 7) (sym (moon-next y))
 
 pub easter-sunday : (y : ℕ) → 1 ≤ y → y ≤ lastYear → EasterSunday y (easter y)
 unfolding computus

@@ -1,7 +1,7 @@
 -- Easter by the Anonymous Gregorian algorithm: a date, from 22 March to 25 April.
 -- Assumes nothing.
 use Prim.Native.Nat.{ℕ, _+_, _-_, _*_, _/_, _%_, _^_, _≤_, _<_}
-use mathlib.Core.Path.{_≡_, refl, ap₂, sym, _∙_, subst₂}
+use mathlib.Core.Path.{_≡_, refl, ap, ap₂, sym, _∙_, subst₂}
 use mathlib.Core.Bool.{true, _&&_}
 use lib.Dec.{leb, lit≤}
 use native.Mathlib.Omega.{arith}
@@ -13,43 +13,53 @@ use Rattle.gregorian.proofs.Laws.{date-is, number-range}
 use Rattle.utils.specs.declared.OptionalDay.{OptionalDay}
 use Rattle.utils.specs.declared.OptionalDay.the-variants.{Day, None}
 use Rattle.utils.specs.Weekday.{InYears, mapDay}
-use Rattle.utils.specs.Easter.{easter, calculateEaster, calculateGoodFriday, calculateEasterMonday}
+use Rattle.utils.specs.Easter.{moonDays, easter, calculateEaster, calculateGoodFriday, calculateEasterMonday}
 use Rattle.utils.proofs.WeekdayLaws.{when-day}
 
--- The days from 22 March to Easter: the algorithm's h + l - 7 * m.
-unfoldable pub daysAfter : ℕ → ℕ
-daysAfter year =
-    let a = year % 19 in
-    let b = year / 100 in
-    let c = year % 100 in
-    let h = (19 * a + b - b / 4 - (b - (b + 8) / 25 + 1) / 3 + 15) % 30 in
-    let l = (32 + 2 * (b % 4) + 2 * (c / 4) - h - c % 4) % 7 in
-    h + l - 7 * ((a + 11 * h + 22 * l) / 451)
-
--- They are at most 34.
-below-35 : (a h l : ℕ) → h ≤ 29 → l ≤ 6 → h + l - 7 * ((a + 11 * h + 22 * l) / 451) ≤ 34
-below-35 a h l p q = omega arith
-
-rest-30 : (n : ℕ) → n % 30 ≤ 29
+pub rest-30 : (n : ℕ) → n % 30 ≤ 29
 rest-30 n = omega arith
 
 rest-7 : (n : ℕ) → n % 7 ≤ 6
 rest-7 n = omega arith
 
--- the last difference of l does not fall below 0
-pub l-difference : (p c e i : ℕ) → c % 4 ≤ 32 + 2 * e + 2 * i - p % 30
-l-difference p c e i = omega arith
+-- the last difference of h does not fall below 0
+pub g-difference : (a b : ℕ) → (b - (b + 8) / 25 + 1) / 3 ≤ 19 * a + b - b / 4
+g-difference a b = omega (arith, less ((b + 8) / 25), third)
+  where
+    less : (f : ℕ) → (b - f + 1) / 3 ≤ (b + 1) / 3
+    less f = omega arith
+
+    third : (b + 1) / 3 + b / 4 ≤ b
+    third = omega arith
+
+moon-high : (a b : ℕ) → moonDays a b ≤ 29
+unfolding moonDays
+moon-high a b = rest-30 _
 
 -- whatever is taken off, h + l is at most 35
-pub at-most-35 : (p q x : ℕ) → p % 30 + q % 7 - x ≤ 35
-at-most-35 p q x = omega arith
+pub at-most-35 : (h q x : ℕ) → h ≤ 29 → h + q % 7 - x ≤ 35
+at-most-35 h q x k = omega arith
 
-pub n-fits : (p q x : ℕ) → p % 30 + q % 7 - x + 114 < 2 ^ 32
-n-fits p q x = omega (arith, at-most-35 p q x)
+pub n-fits : (h q x : ℕ) → h ≤ 29 → h + q % 7 - x + 114 < 2 ^ 32
+n-fits h q x k = omega (arith, at-most-35 h q x k)
 
-pub days-high : (y : ℕ) → daysAfter y ≤ 34
+-- The days from 22 March to Easter, h + l - 7 * m, from the year and h: at most 34.
+unfoldable pub daysAfter : ℕ → ℕ → ℕ
+daysAfter y h =
+    let a = y % 19 in
+    let c = y % 100 in
+    let l = (32 + 2 * (y / 100 % 4) + 2 * (c / 4) - h - c % 4) % 7 in
+    h + l - 7 * ((a + 11 * h + 22 * l) / 451)
+
+abbrev pub easterDays : ℕ → ℕ
+easterDays y = daysAfter y (moonDays (y % 19) (y / 100))
+
+below-35 : (a h l : ℕ) → h ≤ 29 → l ≤ 6 → h + l - 7 * ((a + 11 * h + 22 * l) / 451) ≤ 34
+below-35 a h l p q = omega arith
+
+pub days-high : (y : ℕ) → easterDays y ≤ 34
 unfolding daysAfter
-days-high y = below-35 _ _ _ (rest-30 _) (rest-7 _)
+days-high y = below-35 _ _ _ (moon-high _ _) (rest-7 _)
 
 -- The month and the day that the algorithm makes of x days: a date, x days after 22 March.
 march : (x : ℕ) → x < 10 → ((x + 114) / 31 ≡ 3) × ((x + 114) % 31 + 1 ≡ x + 22)
@@ -74,9 +84,9 @@ days-number y x k = elim (decLt x 10) [
   | no a ↦ let e = april x (omega arith) k in ap₂ (dayNumber y) (e .0) (e .1) ∙ omega arith
 ]
 
-pub easter-days : (y : ℕ) → easter y ≡ dayNumber y 3 22 + daysAfter y
+pub easter-days : (y : ℕ) → easter y ≡ dayNumber y 3 22 + easterDays y
 unfolding easter daysAfter
-easter-days y = days-number y _ (at-most-35 _ _ _)
+easter-days y = days-number y _ (at-most-35 _ _ _ (moon-high _ _))
 
 -- Easter lies from 22 March to 25 April.
 april-25 : (y : ℕ) → dayNumber y 4 25 ≡ dayNumber y 3 22 + 34
@@ -105,7 +115,7 @@ easter-day y n e =
     let l = leb-true 1 y (and-left (leb 1 y) _ (c .0)) in
     let h = leb-true y lastYear (and-right (leb 1 y) _ (c .0)) in
     let q : easter y ≡ n = cc (c .1) in
-    let r = number-range y _ _ (days-date y (daysAfter y) l h (at-most-35 _ _ _)) in
+    let r = number-range y _ _ (days-date y (easterDays y) l h (at-most-35 _ _ _ (moon-high _ _))) in
     record {
       is-easter = q;
       y-low = l;
@@ -113,6 +123,13 @@ easter-day y n e =
       low = omega (arith, q, day-low y 3 22, easter-range y);
       high = omega (arith, q, r);
     }
+
+-- what `?` makes of an answer
+pub after-none : (f : ℕ → ℕ) (y : ℕ) → None ≡ calculateEaster y → None ≡ mapDay f (calculateEaster y)
+after-none f y e = ap (mapDay f) e
+
+pub after-day : (f : ℕ → ℕ) (y n : ℕ) → Day n ≡ calculateEaster y → Day (f n) ≡ mapDay f (calculateEaster y)
+after-day f y n e = ap (mapDay f) e
 
 pub easter-found : (y : ℕ) → 1 ≤ y → y ≤ lastYear → calculateEaster y ≡ Day (easter y)
 unfolding calculateEaster

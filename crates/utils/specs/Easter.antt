@@ -7,6 +7,14 @@ use Rattle.utils.specs.declared.OptionalDay.{OptionalDay}
 use Rattle.utils.specs.declared.OptionalDay.the-variants.{Day, None}
 use Rattle.utils.specs.Weekday.{mapDay}
 
+-- h, from a and b: the full moon falls about h days after 21 March
+unfoldable pub moonDays : ℕ → ℕ → ℕ
+moonDays a b =
+    let d = b / 4 in
+    let f = (b + 8) / 25 in
+    let g = (b - f + 1) / 3 in
+    (19 * a + b - d - g + 15) % 30
+
 -- The Anonymous Gregorian (Meeus/Jones/Butcher) algorithm, in the Rust's letters: Easter Sunday's day number. No difference
 -- falls below 0: the code has the same ones on u32, and its proof shows each.
 unfoldable pub easter : ℕ → ℕ
@@ -14,11 +22,8 @@ easter year =
     let a = year % 19 in
     let b = year / 100 in
     let c = year % 100 in
-    let d = b / 4 in
     let e = b % 4 in
-    let f = (b + 8) / 25 in
-    let g = (b - f + 1) / 3 in
-    let h = (19 * a + b - d - g + 15) % 30 in
+    let h = moonDays a b in
     let i = c / 4 in
     let k = c % 4 in
     let l = (32 + 2 * e + 2 * i - h - k) % 7 in

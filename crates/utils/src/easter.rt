@@ -1,8 +1,20 @@
 // Easter by the Anonymous Gregorian algorithm, Good Friday and Easter Monday: docs/SCOPE.md [easter], [good-friday],
 // [easter-monday].
 ghost use mathlib.Core.Path.{_≡_};
-ghost use Rattle.utils.specs.Easter.{calculateEaster, calculateGoodFriday, calculateEasterMonday};
+ghost use Prim.Native.Nat.{_≤_};
+ghost use Rattle.utils.specs.Easter.{moonDays, calculateEaster, calculateGoodFriday, calculateEasterMonday};
 use crate::OptionalDay;
+
+// h of the algorithm, from its a and b: the full moon falls about h days after 21 March.
+fn moon_days(a: u32, b: u32) -> u32
+    requires { ⌜ (a ≤ 18) × (b ≤ 99) ⌝ }
+    ensures { λ r. ⌜ (r ≡ moonDays a b) × (r ≤ 29) ⌝ }
+{
+    let d = b / 4;
+    let f = (b + 8) / 25;
+    let g = (b - f + 1) / 3;
+    (19 * a + b - d - g + 15) % 30
+}
 
 pub fn calculate_easter(year: u32) -> OptionalDay
     ensures { λ r. ⌜ r ≡ calculateEaster year ⌝ }
@@ -16,11 +28,8 @@ pub fn calculate_easter(year: u32) -> OptionalDay
     let a = year % 19;
     let b = year / 100;
     let c = year % 100;
-    let d = b / 4;
     let e = b % 4;
-    let f = (b + 8) / 25;
-    let g = (b - f + 1) / 3;
-    let h = (19 * a + b - d - g + 15) % 30;
+    let h = moon_days(a, b);
     let i = c / 4;
     let k = c % 4;
     let l = (32 + 2 * e + 2 * i - h - k) % 7;

@@ -5,8 +5,10 @@ pub mod easter;
 ghost use mathlib.Core.Path.{_≡_};
 ghost use mathlib.Core.Bool.{true};
 ghost use Prim.Native.Nat.{_≤_};
+ghost use lib.Dec.{eqb};
 ghost use Rattle.gregorian.specs.Calendar.{isDate};
 ghost use Rattle.utils.specs.Weekday.{targetDay, ifInMonth, nthWeekdayOfMonth, nextMonth, nextYear, firstOfNext, lastUpTo, lastWeekdayOfMonth};
+use gregorian::Date;
 
 // In the place of the Rust's Option<NaiveDate>: a day number, or none.
 pub enum OptionalDay {
@@ -25,15 +27,21 @@ fn target_day(year: u32, month: u32, weekday: u32, nth: u8) -> u32
 }
 
 // Only the month's number is compared, not the year.
-fn if_in_month(month: u32, target: u32) -> OptionalDay
+fn is_same_month(a: Date, b: Date) -> bool
+    ensures { λ r. ⌜ r ≡ eqb (a .month) (b .month) ⌝ }
+{
+    a.month == b.month
+}
+
+// The target if it is in a month of the same number as the first day.
+fn if_in_month(first_day: Date, target: u32) -> OptionalDay
     requires { ⌜ 1 ≤ target ⌝ }
-    ensures { λ r. ⌜ r ≡ ifInMonth month target ⌝ }
+    ensures { λ r. ⌜ r ≡ ifInMonth («first_day» .month) target ⌝ }
 {
     if gregorian::LAST_DAY < target {
         return OptionalDay::None;
     }
-    let date = gregorian::date_of(target);
-    if date.month == month {
+    if is_same_month(gregorian::date_of(target), first_day) {
         OptionalDay::Day(target)
     } else {
         OptionalDay::None
@@ -53,7 +61,12 @@ pub fn nth_weekday_of_month(year: u32, month: u32, weekday: u32, nth: u8) -> Opt
     if nth < 1 {
         return OptionalDay::None;
     }
-    if_in_month(month, target_day(year, month, weekday, nth))
+    let first_day = Date {
+        year,
+        month,
+        day: 1,
+    };
+    if_in_month(first_day, target_day(year, month, weekday, nth))
 }
 
 fn next_month(month: u32) -> u32
