@@ -1,4 +1,4 @@
-/* Prints the moving days of a year that the markets' rules rest on: usage example [YEAR]. */
+/* Prints the moving days of a year that the markets' rules rest on: usage: example YEAR. */
 #include "trading_calendar.h"
 
 #include <stdio.h>
@@ -14,7 +14,14 @@ static void print(const char *name, tc_optional_date answer) {
 
 int main(int argc, char **argv) {
     enum { MONDAY = 0, THURSDAY = 3 };
-    uint32_t year = argc > 1 ? (uint32_t)strtoul(argv[1], NULL, 10) : 2026;
+    char *end = NULL;
+    unsigned long number = argc == 2 ? strtoul(argv[1], &end, 10) : 0;
+    uint32_t year = (uint32_t)number;
+
+    if (argc != 2 || end == argv[1] || *end != '\0' || number > UINT32_MAX) {
+        fprintf(stderr, "usage: example YEAR\n");
+        return 2;
+    }
 
     print("Good Friday", tc_calculate_good_friday(year));
     print("Easter Sunday", tc_calculate_easter(year));

@@ -49,7 +49,7 @@ void plain_fill(void) {
         exit(1);
     }
 
-    /* 1 January 2001 is a Monday; from there the weekdays take turns in both directions. */
+    /* 1 January 2001 is a Monday; from there on each next day has the next weekday, and each day before the one before. */
     monday = month_start[2001][1];
     for (int r = monday, w = 0; r < ROWS; r++, w = (w + 1) % WEEKDAYS) days[r].weekday = (uint8_t)w;
     for (int r = monday, w = 0; r >= 0; r--, w = (w + WEEKDAYS - 1) % WEEKDAYS) days[r].weekday = (uint8_t)w;

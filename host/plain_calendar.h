@@ -1,5 +1,5 @@
-/* A second, plain calendar that the tests compare with. It shares no code and no method with the library: every day of
- * the years 1 to 9999 stands in one table, and questions are answered by looking in it. */
+/* A second, plain calendar that the tests compare with. It shares no code with the library: every day of the years
+ * 1 to 9999 stands in one table, and questions are answered by looking in it. */
 #ifndef PLAIN_CALENDAR_H
 #define PLAIN_CALENDAR_H
 

@@ -1,5 +1,5 @@
 /* Compares every call of the library with the plain calendar, and with the examples of docs/SCOPE.md. Prints a line for each
- * call; fails if any answer differs or a call was compared with nothing. */
+ * call; fails if any answer differs or not all were compared. */
 #include "plain_calendar.h"
 #include "trading_calendar.h"
 
@@ -12,6 +12,15 @@ enum call { NTH, LAST, EASTER, GOOD_FRIDAY, EASTER_MONDAY, CALLS };
 static const char *const names[CALLS] = {
     "tc_nth_weekday_of_month", "tc_last_weekday_of_month", "tc_calculate_easter", "tc_calculate_good_friday",
     "tc_calculate_easter_monday",
+};
+
+/* How many comparisons the loops below make, so that a loop cut short is seen. */
+static const unsigned long expected_count[CALLS] = {
+    9999ul * 12 * 7 * 12 + 15ul * 12 * 7 * 256 + 23ul * 23 * 23 * 7 + 1,
+    9999ul * 12 * 7 + 23ul * 23 * 23 + 1,
+    9999ul + 23 + 3,
+    9999ul + 23,
+    9999ul + 23,
 };
 
 static unsigned long compared[CALLS], differ[CALLS];
@@ -131,7 +140,11 @@ int main(void) {
     example_weekdays();
     for (int call = 0; call < CALLS; call++) {
         printf("%s: %lu compared, %lu differ\n", names[call], compared[call], differ[call]);
-        if (compared[call] == 0 || differ[call] != 0) failed = 1;
+        if (differ[call] != 0) failed = 1;
+        if (compared[call] != expected_count[call]) {
+            printf("%s: not the %lu comparisons that were meant\n", names[call], expected_count[call]);
+            failed = 1;
+        }
     }
     return failed;
 }

@@ -1,20 +1,19 @@
-/* The calls of the trading calendar, for C and C++. Labels in brackets, as [easter], are those of docs/SCOPE.md. */
+/* The calls of the trading calendar, for C. Labels in brackets, as [easter], are those of docs/SCOPE.md. */
 #ifndef TRADING_CALENDAR_H
 #define TRADING_CALENDAR_H
 
-#include <stddef.h>
 #include <stdint.h>
 
 #ifdef __cplusplus
 extern "C" {
 #endif
 
-/* A Gregorian date of the years 1 to 9999 [date]. */
+/* A Gregorian date of the years 1 to 9999 [date], or 0, 0, 0 in an answer without one. */
 typedef struct {
     uint32_t year, month, day;
 } tc_date;
 
-/* found is 1 and date is the answer, or every field is 0: none. */
+/* found is 1 and date is the answer, or every field is 0: none [host-answers]. */
 typedef struct {
     uint32_t found;
     tc_date date;

@@ -1,5 +1,6 @@
--- Easter by the Gregorian computus, from the golden number and the epact to the full moon and the Sunday after it. It shares no
--- step with src/utils/easter.rs; proofs/Agreement.antt shows that the two agree in years 1 to 9999. Assumes nothing.
+-- Easter by the Gregorian computus, from the golden number and the epact to the full moon and the Sunday after it, and not by the
+-- letters of src/utils/easter.rs: docs/SCOPE.md [authority]. proofs/Agreement.antt shows that the two agree in years 1 to 9999.
+-- Assumes nothing.
 use Prim.Native.Nat.{ℕ, _+_, _-_, _*_, _/_, _%_, _≤_}
 use mathlib.Core.Path.{_≡_}
 use mathlib.Core.Bool.{cond, _&&_}
@@ -19,7 +20,7 @@ century y = y / 100 + 1
 unfoldable pub solarCorrection : ℕ → ℕ
 solarCorrection y = 3 * century y / 4
 
--- the days by which the 19-year cycle runs ahead of the moon, 8 in 25 centuries
+-- the days by which the moon runs ahead of its 19-year cycle, 8 in 25 centuries
 unfoldable pub lunarCorrection : ℕ → ℕ
 lunarCorrection y = (8 * century y + 5) / 25
 

@@ -1,7 +1,7 @@
 -- What the code's formulas and tables come to.
 -- Assumes nothing.
 use Prim.Native.Nat.{ℕ, _+_, _-_, _*_, _/_, _≤_, _<_}
-use mathlib.Core.Path.{_≡_, refl, ap, sym, _∙_, subst}
+use mathlib.Core.Path.{_≡_, ap, sym, _∙_, subst}
 use mathlib.Core.Bool.{Bool, true, false, cond}
 use mathlib.Core.List.{List, [], _∷_}
 use lib.Dec.{lit≤}
@@ -80,28 +80,17 @@ one-low f most n k h l u =
     let e : k + 1 + 1 ≡ k + 2 = omega arith in
     subst (Within f most n) e (right f most n (k + 1) h l (subst (λ (i : ℕ). n ≤ total f i) (sym e) u))
 
--- The year by the mean length of a year.
-abbrev guessYear : ℕ → ℕ
-guessYear n = (n - 1) * 400 / 146097
-
-year-low : (n k : ℕ) → 1 ≤ n → k ≡ guessYear n → years k < n
-year-low n k h e = omega arith
-
-year-high : (n k : ℕ) → 1 ≤ n → k ≡ guessYear n → n ≤ years (k + 2)
-year-high n k h e = omega arith
-
+-- The year, from the years k before it or one fewer.
 in-years : (n : ℕ) → n ≤ lastDay → n ≤ total yearLength lastYear
 in-years n h = subst (λ (t : ℕ). n ≤ t) (sym (years-is lastYear)) h
 
-pub year-one-low : (n r : ℕ) → (1 ≤ n) × (n ≤ lastDay) → r ≡ total yearLength (guessYear n + 1) → r < n → Within yearLength lastYear n (guessYear n + 2)
-year-one-low n r h e l =
-    one-low yearLength lastYear n (guessYear n) (in-years n (h .1)) (omega arith)
-    (subst (λ (t : ℕ). n ≤ t) (sym (years-is (guessYear n + 2))) (year-high n (guessYear n) (h .0) refl))
+pub year-one-low : (n k r : ℕ) → (1 ≤ n) × (n ≤ lastDay) → n ≤ years (k + 2) → r ≡ total yearLength (k + 1) → r < n → Within yearLength lastYear n (k + 2)
+year-one-low n k r h u e l =
+    one-low yearLength lastYear n k (in-years n (h .1)) (omega arith) (subst (λ (t : ℕ). n ≤ t) (sym (years-is (k + 2))) u)
 
-pub year-right : (n r : ℕ) → (1 ≤ n) × (n ≤ lastDay) → r ≡ total yearLength (guessYear n + 1) → n ≤ r → Within yearLength lastYear n (guessYear n + 1)
-year-right n r h e l =
-    right yearLength lastYear n (guessYear n) (in-years n (h .1))
-    (subst (λ (t : ℕ). t < n) (sym (years-is (guessYear n))) (year-low n (guessYear n) (h .0) refl)) (omega arith)
+pub year-right : (n k r : ℕ) → (1 ≤ n) × (n ≤ lastDay) → years k < n → r ≡ total yearLength (k + 1) → n ≤ r → Within yearLength lastYear n (k + 1)
+year-right n k r h u e l =
+    right yearLength lastYear n k (in-years n (h .1)) (subst (λ (t : ℕ). t < n) (sym (years-is k)) u) (omega arith)
 
 -- The month by the length of a long month: the first k months have about 31 days each.
 abbrev guessMonth : ℕ → ℕ

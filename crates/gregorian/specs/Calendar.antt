@@ -47,7 +47,7 @@ pub record Exists (y m d : ℕ) : Type 0 where
   pub d-low : 1 ≤ d
   pub d-high : d ≤ monthLength y m
 
--- A triple is a date if it exists in years 1 to 9999; as facts, and as a test.
+-- What it takes for year, month and day to be a date of the calls; as facts, and as a test.
 pub record IsDate (y m d : ℕ) : Type 0 where
   pub exists : Exists y m d
   pub y-high : y ≤ lastYear
@@ -80,7 +80,8 @@ pub record Weekdays (f : ℕ → ℕ) : Type 0 where
   pub monday : f (dayNumber 2001 1 1) ≡ 0
   pub next : (n : ℕ) → f (n + 1) ≡ nextWeekday (f n)
 
--- The weekday of a day number. This is the one function of `Weekdays`: proofs/Laws.antt, `weekdays` and `only-weekdays`.
+-- The weekday of a day number. This is the one function of `Weekdays`: proofs/Weekdays.antt, `weekdays` and
+-- `only-weekdays`.
 unfoldable pub weekdayOf : ℕ → ℕ
 weekdayOf n = (n + 6) % 7
 

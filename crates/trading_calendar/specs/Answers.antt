@@ -1,4 +1,4 @@
--- How an answer crosses to the host: docs/SCOPE.md [host-calls]. Assumes nothing.
+-- The C structs of the answers: docs/SCOPE.md [host-answers]. Assumes nothing.
 use Rattle.gregorian.specs.Calendar.{date, dateOf}
 use Rattle.utils.specs.declared.OptionalDay.{OptionalDay}
 use Rattle.utils.specs.declared.OptionalDay.the-variants.{Day, None}

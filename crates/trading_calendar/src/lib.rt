@@ -1,5 +1,5 @@
-// The host's boundary: the calls that C or Rust makes, and how their answers cross. Every call takes every number, so none has
-// a `requires`. Labels in brackets are those of docs/SCOPE.md.
+// The calls that a host in C or Rust makes, and the structs of their answers. Every call takes every number, so none has a
+// `requires`. Labels in brackets are those of docs/SCOPE.md.
 ghost use mathlib.Core.Path.{_≡_};
 ghost use Rattle.utils.specs.Weekday.{InYears, nthWeekdayOfMonth, lastWeekdayOfMonth};
 ghost use Rattle.utils.specs.Easter.{calculateEaster, calculateGoodFriday, calculateEasterMonday};
@@ -7,7 +7,7 @@ ghost use Rattle.trading_calendar.specs.Answers.{optionalDate};
 use gregorian::Date;
 use utils::OptionalDay;
 
-// found is 1 and date is the answer, or every field is 0.
+// [host-answers]: found is 1 and date is the answer, or every field is 0.
 #[repr(C)]
 pub struct OptionalDate {
     pub found: u32,
@@ -34,7 +34,7 @@ fn optional_date(day: OptionalDay) -> OptionalDate
     }
 }
 
-// The nth weekday of a month [nth-weekday].
+// [nth-weekday]: none for nth = 0, and for a weekday, a month, a year or an answer out of range.
 #[no_mangle]
 pub extern "C" fn tc_nth_weekday_of_month(
     year: u32,
@@ -47,7 +47,7 @@ pub extern "C" fn tc_nth_weekday_of_month(
     optional_date(utils::nth_weekday_of_month(year, month, weekday, nth))
 }
 
-// The last weekday of a month [last-weekday].
+// [last-weekday]: none in December 9999, and for a weekday, a month or a year out of range.
 #[no_mangle]
 pub extern "C" fn tc_last_weekday_of_month(year: u32, month: u32, weekday: u32) -> OptionalDate
     ensures { λ r. ⌜ r ≡ optionalDate (lastWeekdayOfMonth year month weekday) ⌝ }
@@ -55,7 +55,7 @@ pub extern "C" fn tc_last_weekday_of_month(year: u32, month: u32, weekday: u32) 
     optional_date(utils::last_weekday_of_month(year, month, weekday))
 }
 
-// Easter Sunday [easter].
+// [easter]: none outside years 1 to 9999.
 #[no_mangle]
 pub extern "C" fn tc_calculate_easter(year: u32) -> OptionalDate
     ensures { λ r. ⌜ r ≡ optionalDate (calculateEaster year) ⌝ }
@@ -63,7 +63,7 @@ pub extern "C" fn tc_calculate_easter(year: u32) -> OptionalDate
     optional_date(utils::easter::calculate_easter(year))
 }
 
-// Two days before Easter Sunday [good-friday].
+// [good-friday]: none outside years 1 to 9999.
 #[no_mangle]
 pub extern "C" fn tc_calculate_good_friday(year: u32) -> OptionalDate
     ensures { λ r. ⌜ r ≡ optionalDate (calculateGoodFriday year) ⌝ }
@@ -71,7 +71,7 @@ pub extern "C" fn tc_calculate_good_friday(year: u32) -> OptionalDate
     optional_date(utils::easter::calculate_good_friday(year))
 }
 
-// The day after Easter Sunday [easter-monday].
+// [easter-monday]: none outside years 1 to 9999.
 #[no_mangle]
 pub extern "C" fn tc_calculate_easter_monday(year: u32) -> OptionalDate
     ensures { λ r. ⌜ r ≡ optionalDate (calculateEasterMonday year) ⌝ }

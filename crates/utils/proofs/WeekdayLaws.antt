@@ -203,6 +203,11 @@ last-weekday y m w =
     same : {s : ℕ} (t : ℕ) → Day s ≡ Day t → s ≡ t
     same t e = cc
 
+-- There is one wherever the month, the weekday and the first of the next month are in range.
+pub last-found : (y m w : ℕ) → isDate y m 1 ≡ true → w ≤ 6 → isDate (nextYear y m) (nextMonth m) 1 ≡ true → lastWeekdayOfMonth y m w ≡ Day (lastUpTo w (dayNumber (nextYear y m) (nextMonth m) 1 - 1))
+unfolding lastWeekdayOfMonth firstOfNext
+last-found y m w h w6 n = simp (h, le-leb w 6 w6, n)
+
 -- Each answer is a day of years 1 to 9999, or none.
 when-in-years : (b : Bool) (x : OptionalDay) → (b ≡ true → InYears x) → InYears (cond b x None)
 when-in-years true x h = h refl

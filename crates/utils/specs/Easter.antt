@@ -7,7 +7,7 @@ use Rattle.utils.specs.declared.OptionalDay.{OptionalDay}
 use Rattle.utils.specs.declared.OptionalDay.the-variants.{Day, None}
 use Rattle.utils.specs.Weekday.{mapDay}
 
--- h, from a and b: the full moon falls about h days after 21 March
+-- h, from a and b: the full moon is h days after 21 March, or a day less under the exceptions of the epact
 unfoldable pub moonDays : ℕ → ℕ → ℕ
 moonDays a b =
     let d = b / 4 in

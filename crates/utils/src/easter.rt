@@ -5,7 +5,7 @@ ghost use Prim.Native.Nat.{_≤_};
 ghost use Rattle.utils.specs.Easter.{moonDays, calculateEaster, calculateGoodFriday, calculateEasterMonday};
 use crate::OptionalDay;
 
-// h of the algorithm, from its a and b: the full moon falls about h days after 21 March.
+// h of the algorithm, from its a and b.
 fn moon_days(a: u32, b: u32) -> u32
     requires { ⌜ (a ≤ 18) × (b ≤ 99) ⌝ }
     ensures { λ r. ⌜ (r ≡ moonDays a b) × (r ≤ 29) ⌝ }

@@ -6,7 +6,7 @@ ghost use mathlib.Core.Path.{_≡_};
 ghost use mathlib.Core.Bool.{true};
 ghost use Prim.Native.Nat.{_≤_};
 ghost use lib.Dec.{eqb};
-ghost use Rattle.gregorian.specs.Calendar.{isDate};
+ghost use Rattle.gregorian.specs.Calendar.{lastYear, isDate};
 ghost use Rattle.utils.specs.Weekday.{targetDay, ifInMonth, nthWeekdayOfMonth, nextMonth, nextYear, firstOfNext, lastUpTo, lastWeekdayOfMonth};
 use gregorian::Date;
 
@@ -26,8 +26,8 @@ fn target_day(year: u32, month: u32, weekday: u32, nth: u8) -> u32
     first_day + days_to_add + 7 * (nth as u32 - 1)
 }
 
-// Only the month's number is compared, not the year.
-fn is_same_month(a: Date, b: Date) -> bool
+// The year is not compared.
+fn has_same_month_number(a: Date, b: Date) -> bool
     ensures { λ r. ⌜ r ≡ eqb (a .month) (b .month) ⌝ }
 {
     a.month == b.month
@@ -41,7 +41,7 @@ fn if_in_month(first_day: Date, target: u32) -> OptionalDay
     if gregorian::LAST_DAY < target {
         return OptionalDay::None;
     }
-    if is_same_month(gregorian::date_of(target), first_day) {
+    if has_same_month_number(gregorian::date_of(target), first_day) {
         OptionalDay::Day(target)
     } else {
         OptionalDay::None
@@ -77,7 +77,7 @@ fn next_month(month: u32) -> u32
 }
 
 fn next_year(year: u32, month: u32) -> u32
-    requires { ⌜ year ≤ 9999 ⌝ }
+    requires { ⌜ year ≤ lastYear ⌝ }
     ensures { λ r. ⌜ r ≡ nextYear year month ⌝ }
 {
     if month == 12 { year + 1 } else { year }

@@ -1,8 +1,9 @@
 -- `trading_calendar::tc_calculate_good_friday` meets its contract: the answer is a day of years 1 to 9999, or none.
-use mathlib.Core.Path.{sym, subst}
+use mathlib.Core.Path.{ap, sym, _∙_, subst}
 use borrow.Author.Needs.{needs}
 use Rattle.utils.specs.Weekday.{InYears}
 use Rattle.utils.proofs.EasterLaws.{good-friday-in-years}
+use Rattle.trading_calendar.specs.Answers.{optionalDate}
 use Rattle.trading_calendar.proofs.tc_calculate_good_friday.Statement.{statement}
 use Rattle.trading_calendar.proofs.tc_calculate_good_friday.Tie as tie
 
@@ -10,7 +11,7 @@ optional-date-requires : tie.Need-optional-date-requires
 optional-date-requires c κs = subst InYears (sym (c .calculate-good-friday .ensures)) (good-friday-in-years (c .before .args .year))
 
 returns : tie.Need-returns
-returns c = cc
+returns c = c .optional-date .ensures ∙ ap optionalDate (c .before .calculate-good-friday .ensures)
 
 pub tc-calculate-good-friday-spec : {M : Type 1} → statement M
 tc-calculate-good-friday-spec =

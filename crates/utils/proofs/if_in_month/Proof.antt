@@ -10,8 +10,8 @@ use Rattle.utils.proofs.if_in_month.Statement.{statement}
 use Rattle.utils.proofs.if_in_month.Tie as tie
 
 -- the comparison is that of the definition
-same-month : (c : tie.After-is-same-month) → eqb (dateOf (c .before .before .before .args .target) .month) (c .before .before .before .args .first-day .month) ≡ c .is-same-month .result
-same-month c = ap (λ (t : Date). eqb (t .month) (c .before .before .before .args .first-day .month)) (sym (c .before .date-of .ensures)) ∙ sym (c .is-same-month .ensures)
+same-month : (c : tie.After-has-same-month-number) → eqb (dateOf (c .before .before .before .args .target) .month) (c .before .before .before .args .first-day .month) ≡ c .has-same-month-number .result
+same-month c = ap (λ (t : Date). eqb (t .month) (c .before .before .before .args .first-day .month)) (sym (c .before .date-of .ensures)) ∙ sym (c .has-same-month-number .ensures)
 
 returns : tie.Need-returns
 unfolding ifInMonth

@@ -1,8 +1,9 @@
 -- `utils::target_day` meets its contract: the day number of the first is in range, so every sum fits.
-use Prim.Native.Nat.{_≤_}
+use Prim.Native.Nat.{ℕ, _+_, _-_, _*_, _%_, _≤_}
+use mathlib.Core.Path.{ap, _∙_}
 use native.Mathlib.Omega.{arith}
 use borrow.Author.Needs.{needs}
-use Rattle.gregorian.specs.Calendar.{lastDay}
+use Rattle.gregorian.specs.Calendar.{lastDay, weekdayOf}
 use Rattle.gregorian.proofs.Laws.{number-range}
 use Rattle.gregorian.proofs.Weekdays.{weekday-range}
 use Rattle.utils.specs.Weekday.{targetDay, firstFrom}
@@ -27,7 +28,13 @@ add-result-2 c = omega (arith, first-in-years (c .before))
 
 returns : tie.Need-returns
 unfolding targetDay firstFrom
-returns c = (cc (c .before .day-number .ensures, c .weekday .ensures), omega (arith, first-in-years (c .before)))
+returns c =
+    let s = c .before .day-number .result in
+    let w = c .before .before .args .weekday in
+    let k = 7 * (c .before .before .args .nth - 1) in (
+      ap (λ (v : ℕ). s + (w + 7 - v) % 7 + k) (c .weekday .ensures) ∙ ap (λ (i : ℕ). i + (w + 7 - weekdayOf i) % 7 + k) (c .before .day-number .ensures),
+      omega (arith, first-in-years (c .before)),
+    )
 
 pub target-day-spec : {M : Type 1} → statement M
 target-day-spec =
