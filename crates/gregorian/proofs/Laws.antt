@@ -53,6 +53,12 @@ date-is y m d h =
     let e = h .exists in
     simp (le-leb 1 y (e .y-low), le-leb y lastYear (h .y-high), le-leb 1 m (e .m-low), le-leb m 12 (e .m-high), le-leb 1 d (e .d-low), le-leb d (monthLength y m) (e .d-high))
 
+-- a date by its bounds
+pub date-by : (y m d : ℕ) → (1 ≤ y) × (y ≤ lastYear) → (1 ≤ m) × (m ≤ 12) → (1 ≤ d) × (d ≤ monthLength y m) → isDate y m d ≡ true
+date-by y m d a b c =
+    date-is y m d
+    (record { exists = record { y-low = a .0; m-low = b .0; m-high = b .1; d-low = c .0; d-high = c .1 }; y-high = a .1 })
+
 -- the months of a year make up the year
 pub year-of-months : (y : ℕ) → total (monthLength y) 12 ≡ yearLength y
 unfolding total monthLength yearLength

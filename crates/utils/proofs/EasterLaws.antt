@@ -1,15 +1,15 @@
 -- Easter by the Anonymous Gregorian algorithm: a date, from 22 March to 25 April.
 -- Assumes nothing.
 use Prim.Native.Nat.{ℕ, _+_, _-_, _*_, _/_, _%_, _^_, _≤_, _<_}
-use mathlib.Core.Path.{_≡_, refl, ap, ap₂, sym, _∙_, subst₂}
+use mathlib.Core.Path.{_≡_, refl, ap, ap₂, _∙_}
 use mathlib.Core.Bool.{true, _&&_}
-use lib.Dec.{leb, lit≤}
+use lib.Dec.{leb}
 use native.Mathlib.Omega.{arith}
 use native.Mathlib.Decide.{decLt}
 use borrow.Author.Tests.{leb-true, le-leb}
 use Rattle.gregorian.specs.Calendar.{monthLength, total, dayNumber, lastYear, lastDay, isDate}
 use Rattle.gregorian.proofs.Tests.{and-left, and-right}
-use Rattle.gregorian.proofs.Laws.{date-is, number-range}
+use Rattle.gregorian.proofs.Laws.{date-by, number-range}
 use Rattle.utils.specs.declared.OptionalDay.{OptionalDay}
 use Rattle.utils.specs.declared.OptionalDay.the-variants.{Day, None}
 use Rattle.utils.specs.Weekday.{InYears, mapDay}
@@ -71,10 +71,8 @@ april x l h = omega arith
 pub days-date : (y x : ℕ) → 1 ≤ y → y ≤ lastYear → x ≤ 35 → isDate y ((x + 114) / 31) ((x + 114) % 31 + 1) ≡ true
 unfolding monthLength
 days-date y x l h k = elim (decLt x 10) [
-  | yes a ↦ let e = march x a in subst₂ (λ (m d : ℕ). isDate y m d ≡ true) (sym (e .0)) (sym (e .1))
-      (date-is y 3 (x + 22) (record { exists = record { y-low = l; m-low = lit≤ tt; m-high = lit≤ tt; d-low = omega arith; d-high = omega arith }; y-high = h }))
-  | no a ↦ let e = april x (omega arith) k in subst₂ (λ (m d : ℕ). isDate y m d ≡ true) (sym (e .0)) (sym (e .1))
-      (date-is y 4 (x - 9) (record { exists = record { y-low = l; m-low = lit≤ tt; m-high = lit≤ tt; d-low = omega arith; d-high = omega arith }; y-high = h }))
+  | yes a ↦ let e = march x a in rw (e .0, e .1) (date-by y 3 (x + 22) (l, h) (omega arith) (omega arith))
+  | no a ↦ let e = april x (omega arith) k in rw (e .0, e .1) (date-by y 4 (x - 9) (l, h) (omega arith) (omega arith))
 ]
 
 days-number : (y x : ℕ) → x ≤ 35 → dayNumber y ((x + 114) / 31) ((x + 114) % 31 + 1) ≡ dayNumber y 3 22 + x
@@ -150,9 +148,7 @@ good-friday-in-years y =
 
 april-26 : (y : ℕ) → 1 ≤ y → y ≤ lastYear → isDate y 4 26 ≡ true
 unfolding monthLength
-april-26 y l h =
-    date-is y 4 26
-    (record { exists = record { y-low = l; m-low = lit≤ tt; m-high = lit≤ tt; d-low = lit≤ tt; d-high = lit≤ tt }; y-high = h })
+april-26 y l h = date-by y 4 26 (l, h) (omega arith) (omega arith)
 
 pub easter-monday-in-years : (y : ℕ) → InYears (calculateEasterMonday y)
 unfolding calculateEasterMonday dayNumber
