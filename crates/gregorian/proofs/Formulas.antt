@@ -8,7 +8,7 @@ use lib.Dec.{lit≤}
 use lib.ListN.{getD, List·getD-eq-default}
 use native.Mathlib.Omega.{arith}
 use native.Mathlib.Decide.{decLt}
-use Rattle.gregorian.specs.Calendar.{total, leap, leapDay, yearLength, monthLength, dayNumber, lastYear, lastDay, Exists, isDate, dateOf, date, Within}
+use Rattle.gregorian.specs.Calendar.{total, leap, leapDay, yearLength, monthLengths, monthLength, dayNumber, lastYear, lastDay, Exists, isDate, dateOf, date, Within}
 use Rattle.gregorian.proofs.Total.{total-next, total-mono, upto}
 use Rattle.gregorian.proofs.Years.{years, years-is}
 use Rattle.gregorian.proofs.Laws.{is-date, unique, date-exists, number-of-date, number-high, year-of-months}
@@ -43,8 +43,7 @@ other-month y m h = upto (λ (m : ℕ). (m ≡ 2 → ⊥) → getD lengths m 0 �
 
 pub no-month : (y m : ℕ) → 13 ≤ m → monthLength y m ≡ 0
 unfolding monthLength
-no-month y m h =
-    List·getD-eq-default (0 ∷ 31 ∷ (28 + leapDay y) ∷ 31 ∷ 30 ∷ 31 ∷ 30 ∷ 31 ∷ 31 ∷ 30 ∷ 31 ∷ 30 ∷ 31 ∷ []) 0 h
+no-month y m h = List·getD-eq-default (monthLengths y) 0 h
 
 abbrev pub starts : List ℕ
 starts = 0 ∷ 31 ∷ 59 ∷ 90 ∷ 120 ∷ 151 ∷ 181 ∷ 212 ∷ 243 ∷ 273 ∷ 304 ∷ 334 ∷ 365 ∷ []

@@ -3,7 +3,7 @@
 use Prim.Native.Nat.{ℕ, zero, suc, _+_, _-_, _%_, _≤_, _<_}
 use mathlib.Core.Path.{_≡_}
 use mathlib.Core.Bool.{Bool, cond, _&&_}
-use mathlib.Core.List.{[], _∷_}
+use mathlib.Core.List.{List, [], _∷_}
 use lib.Dec.{ltb, leb, eqb}
 use lib.ListN.{getD}
 use Rattle.gregorian.specs.declared.Date.{Date}
@@ -19,9 +19,13 @@ leapDay y = cond (leap y) 1 0
 unfoldable pub yearLength : ℕ → ℕ
 yearLength y = 365 + leapDay y
 
--- The length of month m of year y, 1 for January; 0 where there is no such month.
+-- The lengths of the months of year y; January is number 1, and there is no month 0.
+abbrev pub monthLengths : ℕ → List ℕ
+monthLengths y = 0 ∷ 31 ∷ (28 + leapDay y) ∷ 31 ∷ 30 ∷ 31 ∷ 30 ∷ 31 ∷ 31 ∷ 30 ∷ 31 ∷ 30 ∷ 31 ∷ []
+
+-- The length of month m of year y; 0 where there is no such month.
 unfoldable pub monthLength : ℕ → ℕ → ℕ
-monthLength y m = getD (0 ∷ 31 ∷ (28 + leapDay y) ∷ 31 ∷ 30 ∷ 31 ∷ 30 ∷ 31 ∷ 31 ∷ 30 ∷ 31 ∷ 30 ∷ 31 ∷ []) m 0
+monthLength y m = getD (monthLengths y) m 0
 
 -- f 1 + f 2 + .. + f n
 unfoldable pub total : (ℕ → ℕ) → ℕ → ℕ
