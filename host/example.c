@@ -1,4 +1,5 @@
-/* Prints the moving days of a year that the markets' rules rest on: usage: example YEAR. */
+/* Prints the moving days of a year that the markets' rules rest on, and for each market its trading days, counted, and its
+ * holidays, be they on weekends or not: usage: example YEAR. */
 #include "trading_calendar.h"
 
 #include <stdio.h>
@@ -12,21 +13,60 @@ static void print(const char *name, tc_optional_date answer) {
         printf("%-24s none\n", name);
 }
 
-int main(int argc, char **argv) {
+static void print_moving_days(uint32_t year) {
     enum { MONDAY = 0, THURSDAY = 3 };
-    char *end = NULL;
-    unsigned long number = argc == 2 ? strtoul(argv[1], &end, 10) : 0;
-    uint32_t year = (uint32_t)number;
-
-    if (argc != 2 || end == argv[1] || *end != '\0' || number > UINT32_MAX) {
-        fprintf(stderr, "usage: example YEAR\n");
-        return 2;
-    }
-
     print("Good Friday", tc_calculate_good_friday(year));
     print("Easter Sunday", tc_calculate_easter(year));
     print("Easter Monday", tc_calculate_easter_monday(year));
     print("last Monday of May", tc_last_weekday_of_month(year, 5, MONDAY));
     print("4th Thursday of November", tc_nth_weekday_of_month(year, 11, THURSDAY, 4));
+}
+
+/* Of the 1st to the 31st of every month. Where there is no such day the answer is an error, and its value 0. */
+static int count_trading_days(uint32_t market, uint32_t year) {
+    int count = 0;
+    for (uint32_t month = 1; month <= 12; month++)
+        for (uint32_t day = 1; day <= 31; day++) count += tc_is_trading_day(market, year, month, day).value == 1;
+    return count;
+}
+
+static void print_holidays(uint32_t market, uint32_t year) {
+    static const char *const months[] = {"Jan", "Feb", "Mar", "Apr", "May", "Jun", "Jul", "Aug", "Sep", "Oct", "Nov", "Dec"};
+    const char *separator = "";
+    for (uint32_t month = 1; month <= 12; month++) {
+        int is_first = 1;
+        for (uint32_t day = 1; day <= 31; day++) {
+            if (tc_is_holiday(market, year, month, day).value == 0) continue;
+            if (is_first) printf("%s%s", separator, months[month - 1]);
+            printf(" %lu", (unsigned long)day);
+            is_first = 0;
+            separator = ", ";
+        }
+    }
+    printf("\n");
+}
+
+static void print_markets(uint32_t year) {
+    static const char *const names[] = {"NYSE", "NASDAQ", "LSE", "TSE", "TSX"};
+    if (tc_is_holiday(0, year, 1, 1).error != 0) {
+        printf("trading days and holidays: 2020 to 2030 only\n");
+        return;
+    }
+    for (uint32_t market = 0; market < 5; market++) {
+        printf("%-6s %d trading days; holidays: ", names[market], count_trading_days(market, year));
+        print_holidays(market, year);
+    }
+}
+
+int main(int argc, char **argv) {
+    char *end = NULL;
+    unsigned long number = argc == 2 ? strtoul(argv[1], &end, 10) : 0;
+
+    if (argc != 2 || end == argv[1] || *end != '\0' || number > UINT32_MAX) {
+        fprintf(stderr, "usage: example YEAR\n");
+        return 2;
+    }
+    print_moving_days((uint32_t)number);
+    print_markets((uint32_t)number);
     return 0;
 }

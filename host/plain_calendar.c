@@ -4,7 +4,7 @@
 #include <stdio.h>
 #include <stdlib.h>
 
-enum { LAST_YEAR = 9999, ROWS = 3652059, WEEKDAYS = 7, SUNDAY = 6, MARCH = 3, DECEMBER = 12 };
+enum { WEEKDAYS = 7, SUNDAY = 6, MARCH = 3, DECEMBER = 12 };
 
 /* A day, and its place among the days of its weekday. */
 typedef struct {
@@ -29,9 +29,9 @@ static int is_leap(int year) {
     return year % 4 == 0;
 }
 
-void plain_fill(void) {
+static void fill_days(void) {
     static const int lengths[DECEMBER + 1] = {0, 31, 28, 31, 30, 31, 30, 31, 31, 30, 31, 30, 31};
-    int next = 0, monday;
+    int next = 0;
 
     for (int year = 1; year <= LAST_YEAR; year++) {
         for (int month = 1; month <= DECEMBER; month++) {
@@ -48,9 +48,11 @@ void plain_fill(void) {
         fprintf(stderr, "the plain calendar does not have %d days\n", ROWS);
         exit(1);
     }
+}
 
-    /* 1 January 2001 is a Monday; from there on each next day has the next weekday, and each day before the one before. */
-    monday = month_start[2001][1];
+/* 1 January 2001 is a Monday; from there on each next day has the next weekday, and each day before the one before. */
+static void fill_weekdays(void) {
+    int monday = month_start[2001][1];
     for (int r = monday, w = 0; r < ROWS; r++, w = (w + 1) % WEEKDAYS) days[r].weekday = (uint8_t)w;
     for (int r = monday, w = 0; r >= 0; r--, w = (w + WEEKDAYS - 1) % WEEKDAYS) days[r].weekday = (uint8_t)w;
     for (int r = 0; r < ROWS; r++) {
@@ -58,6 +60,12 @@ void plain_fill(void) {
         days[r].place = weekday_count[w]++;
         of_weekday[w][days[r].place] = r;
     }
+}
+
+void plain_fill(void) {
+    fill_days();
+    fill_weekdays();
+    plain_fill_holidays();
 }
 
 static tc_optional_date none(void) {
@@ -73,6 +81,15 @@ static tc_optional_date found(int r) {
 static int is_year(uint32_t year) { return 1 <= year && year <= LAST_YEAR; }
 
 static int is_month(uint32_t year, uint32_t month) { return is_year(year) && 1 <= month && month <= DECEMBER; }
+
+int plain_row(uint32_t year, uint32_t month, uint32_t day) {
+    int r;
+    if (!is_month(year, month) || day < 1 || day > 31) return -1;
+    r = month_start[year][month] + (int)day - 1;
+    return days[r].month == month ? r : -1;
+}
+
+int plain_weekday(int r) { return days[r].weekday; }
 
 tc_optional_date plain_nth_weekday_of_month(uint32_t year, uint32_t month, uint32_t weekday, uint8_t nth) {
     int r, place;

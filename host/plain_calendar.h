@@ -1,5 +1,5 @@
 /* A second, plain calendar that the tests compare with. It shares no code with the library: every day of the years
- * 1 to 9999 stands in one table, and questions are answered by looking in it. */
+ * 1 to 9999 stands in one table, a row each, and questions are answered by looking in it. */
 #ifndef PLAIN_CALENDAR_H
 #define PLAIN_CALENDAR_H
 
@@ -14,5 +14,15 @@ tc_optional_date plain_last_weekday_of_month(uint32_t year, uint32_t month, uint
 tc_optional_date plain_calculate_easter(uint32_t year);
 tc_optional_date plain_calculate_good_friday(uint32_t year);
 tc_optional_date plain_calculate_easter_monday(uint32_t year);
+tc_bool_result plain_is_trading_day(uint32_t market, uint32_t year, uint32_t month, uint32_t day);
+tc_bool_result plain_is_holiday(uint32_t market, uint32_t year, uint32_t month, uint32_t day);
+
+/* For plain_holidays.c: the size of the table; the row of a date, or -1 if there is no such date; the weekday of a row. */
+enum { LAST_YEAR = 9999, ROWS = 3652059 };
+int plain_row(uint32_t year, uint32_t month, uint32_t day);
+int plain_weekday(int row);
+
+/* For plain_fill: enters the holidays, once the days are there. */
+void plain_fill_holidays(void);
 
 #endif

@@ -74,6 +74,25 @@ unfoldable pub dateOf : ℕ → Date
 dateOf zero = date 0 12 31
 dateOf (suc n) = dayAfter (dateOf n)
 
+-- the numbers of weekdays
+abbrev pub monday : ℕ
+monday = 0
+
+abbrev pub tuesday : ℕ
+tuesday = 1
+
+abbrev pub thursday : ℕ
+thursday = 3
+
+abbrev pub friday : ℕ
+friday = 4
+
+abbrev pub saturday : ℕ
+saturday = 5
+
+abbrev pub sunday : ℕ
+sunday = 6
+
 -- the weekday after w: 0 Monday to 6 Sunday, then Monday again
 unfoldable pub nextWeekday : ℕ → ℕ
 nextWeekday w = cond (eqb w 6) 0 (w + 1)

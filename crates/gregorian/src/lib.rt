@@ -16,6 +16,18 @@ const LENGTHS: [u32; 13] = [0, 31, 28, 31, 30, 31, 30, 31, 31, 30, 31, 30, 31];
 // The days of the first k months in a year that is not leap.
 const STARTS: [u32; 13] = [0, 31, 59, 90, 120, 151, 181, 212, 243, 273, 304, 334, 365];
 
+pub const MONDAY: u32 = 0;
+
+pub const TUESDAY: u32 = 1;
+
+pub const THURSDAY: u32 = 3;
+
+pub const FRIDAY: u32 = 4;
+
+pub const SATURDAY: u32 = 5;
+
+pub const SUNDAY: u32 = 6;
+
 #[repr(C)]
 pub struct Date {
     pub year: u32,

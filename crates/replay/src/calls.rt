@@ -2,10 +2,13 @@
 // here, a name, how many inputs it takes, and a call of the library in `answer`.
 use crate::name::Name;
 use crate::numbers::Numbers;
+use trading_calendar::BoolAnswer;
 use trading_calendar::OptionalDate;
 use trading_calendar::tc_calculate_easter;
 use trading_calendar::tc_calculate_easter_monday;
 use trading_calendar::tc_calculate_good_friday;
+use trading_calendar::tc_is_holiday;
+use trading_calendar::tc_is_trading_day;
 use trading_calendar::tc_last_weekday_of_month;
 use trading_calendar::tc_nth_weekday_of_month;
 
@@ -19,8 +22,12 @@ pub const CALCULATE_GOOD_FRIDAY: usize = 3;
 
 pub const CALCULATE_EASTER_MONDAY: usize = 4;
 
+pub const IS_TRADING_DAY: usize = 5;
+
+pub const IS_HOLIDAY: usize = 6;
+
 // How many kinds there are. Where a kind is asked for, it says that there is none.
-pub const KINDS: usize = 5;
+pub const KINDS: usize = 7;
 
 pub fn name(kind: usize) -> Name {
     match kind {
@@ -29,6 +36,8 @@ pub fn name(kind: usize) -> Name {
         CALCULATE_EASTER => Name::of(b"calculate_easter"),
         CALCULATE_GOOD_FRIDAY => Name::of(b"calculate_good_friday"),
         CALCULATE_EASTER_MONDAY => Name::of(b"calculate_easter_monday"),
+        IS_TRADING_DAY => Name::of(b"is_trading_day"),
+        IS_HOLIDAY => Name::of(b"is_holiday"),
         _ => Name::new(),
     }
 }
@@ -48,7 +57,7 @@ pub fn kind_of(text: Name) -> usize {
 // How many inputs the kind takes.
 fn input_count(kind: usize) -> usize {
     match kind {
-        NTH_WEEKDAY_OF_MONTH => 4,
+        NTH_WEEKDAY_OF_MONTH | IS_TRADING_DAY | IS_HOLIDAY => 4,
         LAST_WEEKDAY_OF_MONTH => 3,
         CALCULATE_EASTER | CALCULATE_GOOD_FRIDAY | CALCULATE_EASTER_MONDAY => 1,
         _ => 0,
@@ -67,6 +76,8 @@ pub fn answer(kind: usize, inputs: Numbers) -> Numbers {
         CALCULATE_EASTER => optional_date(tc_calculate_easter(v[0])),
         CALCULATE_GOOD_FRIDAY => optional_date(tc_calculate_good_friday(v[0])),
         CALCULATE_EASTER_MONDAY => optional_date(tc_calculate_easter_monday(v[0])),
+        IS_TRADING_DAY => bool_result(tc_is_trading_day(v[0], v[1], v[2], v[3])),
+        IS_HOLIDAY => bool_result(tc_is_holiday(v[0], v[1], v[2], v[3])),
         _ => Numbers::new(),
     }
 }
@@ -78,11 +89,21 @@ fn nth_weekday_of_month(year: u32, month: u32, weekday: u32, nth: u32) -> Number
     optional_date(tc_nth_weekday_of_month(year, month, weekday, nth as u8))
 }
 
-// The fields of the C struct, in order.
+// The fields of each C struct, in order.
 fn optional_date(answer: OptionalDate) -> Numbers {
     let date = answer.date;
     Numbers::new()
         .push(answer.found)
+        .push(date.year)
+        .push(date.month)
+        .push(date.day)
+}
+
+fn bool_result(answer: BoolAnswer) -> Numbers {
+    let date = answer.date;
+    Numbers::new()
+        .push(answer.error)
+        .push(answer.value)
         .push(date.year)
         .push(date.month)
         .push(date.day)

@@ -30,5 +30,6 @@ fn replay(path: &[u8]) {
 fn main() {
     replay(b"easter.txt");
     replay(b"weekdays.txt");
+    replay(b"holidays.txt");
     replay(b"malformed.txt");
 }

@@ -3,7 +3,10 @@
 ghost use mathlib.Core.Path.{_≡_};
 ghost use Rattle.utils.specs.Weekday.{InYears, nthWeekdayOfMonth, lastWeekdayOfMonth};
 ghost use Rattle.utils.specs.Easter.{calculateEaster, calculateGoodFriday, calculateEasterMonday};
-ghost use Rattle.trading_calendar.specs.Answers.{optionalDate};
+ghost use Rattle.calendar.specs.Calls.{tradingDayAnswer, holidayAnswer};
+ghost use Rattle.trading_calendar.specs.Answers.{optionalDate, flagOf, boolAnswer};
+use calendar::BoolResult;
+use calendar::error;
 use gregorian::Date;
 use utils::OptionalDay;
 
@@ -77,4 +80,52 @@ pub extern "C" fn tc_calculate_easter_monday(year: u32) -> OptionalDate
     ensures { λ r. ⌜ r ≡ optionalDate (calculateEasterMonday year) ⌝ }
 {
     optional_date(utils::easter::calculate_easter_monday(year))
+}
+
+// [host-answers]: error is 0 and value is yes or no; or error is a number of [errors], and date is what is returned with it.
+#[repr(C)]
+pub struct BoolAnswer {
+    pub error: u32,
+    pub value: u32,
+    pub date: Date,
+}
+
+// [host-answers]: yes is 1 and no is 0.
+fn flag(yes: bool) -> u32
+    ensures { λ r. ⌜ r ≡ flagOf yes ⌝ }
+{
+    if yes { 1 } else { 0 }
+}
+
+fn bool_answer(result: BoolResult) -> BoolAnswer
+    ensures { λ r. ⌜ r ≡ boolAnswer result ⌝ }
+{
+    match result {
+        BoolResult::Ok(yes) => BoolAnswer {
+            error: 0,
+            value: flag(yes),
+            date: error::NO_DATE,
+        },
+        BoolResult::Err(e) => BoolAnswer {
+            error: error::number(e),
+            value: 0,
+            date: error::date(e),
+        },
+    }
+}
+
+// [trading-day]: yes or no; or error 8, 5 or 1, in this order.
+#[no_mangle]
+pub extern "C" fn tc_is_trading_day(market: u32, year: u32, month: u32, day: u32) -> BoolAnswer
+    ensures { λ r. ⌜ r ≡ boolAnswer (tradingDayAnswer market year month day) ⌝ }
+{
+    bool_answer(calendar::is_trading_day(market, year, month, day))
+}
+
+// [is-holiday]: yes or no; or error 8, 5 or 1, in this order.
+#[no_mangle]
+pub extern "C" fn tc_is_holiday(market: u32, year: u32, month: u32, day: u32) -> BoolAnswer
+    ensures { λ r. ⌜ r ≡ boolAnswer (holidayAnswer market year month day) ⌝ }
+{
+    bool_answer(calendar::is_holiday(market, year, month, day))
 }

@@ -97,7 +97,7 @@ fn first_of_next(year: u32, month: u32) -> OptionalDay
 }
 
 // The last such weekday up to day n: one of the seven days that end there.
-fn last_up_to(weekday: u32, n: u32) -> u32
+pub fn last_up_to(weekday: u32, n: u32) -> u32
     requires { ⌜ (weekday ≤ 6) × (7 ≤ n) ⌝ }
     ensures { λ r. ⌜ r ≡ lastUpTo weekday n ⌝ }
 {

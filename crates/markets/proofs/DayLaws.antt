@@ -1,0 +1,88 @@
+-- The laws of lists of days, of the day of an answer, and of the days that every year has.
+-- Assumes nothing.
+use Prim.Native.Nat.{ℕ, _≤_}
+use mathlib.Core.Path.{_≡_, refl, ap, sym, _∙_}
+use mathlib.Core.Bool.{Bool, true, false, cond, _&&_, _||_}
+use mathlib.Core.List.{List, [], _∷_, _++_}
+use lib.Dec.{leb, eqb}
+use lib.ListN.{getD}
+use native.Mathlib.Omega.{arith}
+use borrow.Author.Tests.{leb-true, ne-eqb}
+use Rattle.gregorian.specs.Calendar.{saturday, sunday, weekdayOf, monthLength, dayNumber, lastYear, lastDay, isDate}
+use Rattle.gregorian.proofs.Tests.{and-left, and-right}
+use Rattle.gregorian.proofs.Total.{upto}
+use Rattle.gregorian.proofs.Laws.{date-by}
+use Rattle.utils.specs.declared.OptionalDay.{OptionalDay}
+use Rattle.utils.specs.declared.OptionalDay.the-variants.{Day, None}
+use Rattle.markets.specs.Days.{contains, insert, insertIf, insertDay, isDay, matchWeekend, shortLengths, everyYearHas}
+
+pub or-assoc : (a b c : Bool) → (a || (b || c)) ≡ (a || b || c)
+or-assoc true b c = refl
+or-assoc false b c = refl
+
+pub or-false : (a : Bool) → (a || false) ≡ a
+or-false true = refl
+or-false false = refl
+
+-- what a list contains after an insertion
+contains-append : (ds : List ℕ) (d n : ℕ) → contains (ds ++ d ∷ []) n ≡ (contains ds n || eqb n d)
+unfolding contains
+contains-append [] d n = or-false (eqb n d)
+contains-append (x ∷ ds) d n = ap (λ (b : Bool). eqb n x || b) (contains-append ds d n) ∙ or-assoc (eqb n x) (contains ds n) (eqb n d)
+
+pub contains-none : (n : ℕ) → contains [] n ≡ false
+unfolding contains
+contains-none n = refl
+
+pub contains-insert : (ds : List ℕ) (d n : ℕ) → contains (insert ds d) n ≡ (contains ds n || eqb n d)
+unfolding insert
+contains-insert ds d n = contains-append ds d n
+
+pub contains-if : (ds : List ℕ) (b : Bool) (d n : ℕ) → contains (insertIf ds b d) n ≡ (contains ds n || b && eqb n d)
+unfolding insertIf
+contains-if ds true d n = contains-insert ds d n
+contains-if ds false d n = sym (or-false (contains ds n))
+
+pub contains-day : (ds : List ℕ) (r : OptionalDay) (n : ℕ) → contains (insertDay ds r) n ≡ (contains ds n || isDay r n)
+unfolding insertDay
+contains-day ds (Day d) n = contains-insert ds d n
+contains-day ds None n = sym (or-false (contains ds n))
+
+-- whether n is the day of an answer
+pub day-is : (r : OptionalDay) (d n : ℕ) → Day d ≡ r → eqb n d ≡ isDay r n
+day-is r d n e = ap (λ (o : OptionalDay). isDay o n) e
+
+pub none-is : (r : OptionalDay) (n : ℕ) → None ≡ r → false ≡ isDay r n
+none-is r n e = ap (λ (o : OptionalDay). isDay o n) e
+
+-- the arms of a `match` on the weekday
+pub on-saturday : (n s t : ℕ) → weekdayOf n ≡ saturday → s ≡ matchWeekend n s t
+unfolding matchWeekend
+on-saturday n s t e = simp e
+
+pub on-sunday : (n s t : ℕ) → weekdayOf n ≡ sunday → t ≡ matchWeekend n s t
+unfolding matchWeekend
+on-sunday n s t e = simp e
+
+pub on-weekday : (n s t : ℕ) → (weekdayOf n ≡ saturday → ⊥) → (weekdayOf n ≡ sunday → ⊥) → n ≡ matchWeekend n s t
+unfolding matchWeekend
+on-weekday n s t p q = simp (ne-eqb (weekdayOf n) saturday p, ne-eqb (weekdayOf n) sunday q)
+
+pub day-low : (y m d : ℕ) → d ≤ dayNumber y m d
+unfolding dayNumber
+day-low y m d = omega arith
+
+-- A day that every year has is a date in each of years 1 to 9999.
+short-length : (y m : ℕ) → m ≤ 12 → getD shortLengths m 0 ≤ monthLength y m
+unfolding monthLength
+short-length y m h = upto (λ m. getD shortLengths m 0 ≤ monthLength y m) 13 (omega arith) m (omega arith)
+
+pub every-year-date : (y m d : ℕ) → (1 ≤ y) × (y ≤ lastYear) × (everyYearHas m d ≡ true) → isDate y m d ≡ true
+every-year-date y m d h =
+    let t₂ = leb 1 m && leb m 12 in
+    let t₃ = t₂ && leb 1 d in
+    let e₃ = and-left t₃ _ (h .2) in
+    let e₂ = and-left t₂ _ e₃ in
+    let m-high = leb-true m 12 (and-right (leb 1 m) _ e₂) in
+    date-by y m d (h .0, h .1) (leb-true 1 m (and-left (leb 1 m) _ e₂), m-high)
+    (leb-true 1 d (and-right t₂ _ e₃), omega (arith, leb-true d _ (and-right t₃ _ (h .2)), short-length y m m-high))

@@ -1,0 +1,37 @@
+-- The holidays of a market by its code.
+-- Assumes nothing.
+use Prim.Native.Nat.{ℕ, _≤_, _<_}
+use mathlib.Core.Path.{_≡_, refl, ap, sym, _∙_}
+use mathlib.Core.Bool.{Bool, false}
+use mathlib.Core.List.{List, []}
+use lib.ListN.{List·getD-eq-default}
+use native.Mathlib.Omega.{arith}
+use Rattle.gregorian.specs.Calendar.{lastYear, lastDay, dateOf}
+use Rattle.gregorian.proofs.Laws.{is-date, date-of-is}
+use Rattle.gregorian.proofs.Total.{upto}
+use Rattle.markets.specs.Days.{contains}
+use Rattle.markets.specs.Us.{getUsHolidays}
+use Rattle.markets.specs.Markets.{implementations, holidays, isHoliday}
+use Rattle.markets.proofs.DayLaws.{contains-none}
+
+-- the year of a day number
+pub year-range : (n y : ℕ) → (1 ≤ n) × (n ≤ lastDay) → y ≡ dateOf n .year → (1 ≤ y) × (y ≤ lastYear)
+year-range n y h e =
+    let d = is-date _ _ _ (date-of-is n (h .0) (h .1)) in
+    omega (arith, e, d .exists .y-low, d .y-high)
+
+-- NYSE and NASDAQ
+pub us-market : (m : ℕ) → m < 2 → holidays m ≡ getUsHolidays
+unfolding holidays
+us-market m h = upto (λ m. holidays m ≡ getUsHolidays) 2 ((tt, refl), refl) m h
+
+pub no-market : (m n : ℕ) → 5 ≤ m → false ≡ isHoliday m n
+unfolding isHoliday holidays
+no-market m n h =
+    sym (ap (λ (f : ℕ → List ℕ). contains (f (dateOf n .year)) n) (List·getD-eq-default implementations (λ year. []) {n = m} (omega arith)) ∙ contains-none n)
+
+-- an answer for the year of n, and the code of the market
+pub by-code : (m n y : ℕ) (f : ℕ → List ℕ) (r : Bool) → r ≡ contains (f y) n → y ≡ dateOf n .year → holidays m ≡ f → r ≡ isHoliday m n
+unfolding isHoliday
+by-code m n y f r e d h =
+    e ∙ ap (λ (i : ℕ). contains (f i) n) d ∙ ap (λ (g : ℕ → List ℕ). contains (g (dateOf n .year)) n) (sym h)

@@ -1,0 +1,21 @@
+-- `markets::adjust_for_weekend` meets its contract: each arm of the weekday.
+use mathlib.Core.Path.{sym, _∙_}
+use borrow.Author.Needs.{needs}
+use Rattle.markets.proofs.DayLaws.{on-saturday, on-sunday, on-weekday}
+use Rattle.markets.proofs.adjust_for_weekend.Statement.{statement}
+use Rattle.markets.proofs.adjust_for_weekend.Tie as tie
+
+returns : tie.Need-returns
+returns c = on-saturday _ _ _ (sym (c .before .weekday .ensures) ∙ c .match .keys1)
+
+returns-2 : tie.Need-returns-2
+returns-2 c = on-sunday _ _ _ (sym (c .before .weekday .ensures) ∙ c .match .keys2)
+
+returns-3 : tie.Need-returns-3
+returns-3 c =
+    let e = c .before .weekday .ensures in
+    on-weekday _ _ _ (λ k. c .match .rest .0 .1 (e ∙ k)) (λ k. c .match .rest .1 (e ∙ k))
+
+pub adjust-for-weekend-spec : {M : Type 1} → statement M
+adjust-for-weekend-spec =
+    tie.close (tie.spec (search needs) (search needs) (search needs) returns returns-2 returns-3)

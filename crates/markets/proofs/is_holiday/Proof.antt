@@ -1,0 +1,58 @@
+-- `markets::is_holiday` meets its contract: each arm of the code.
+use mathlib.Core.Path.{_≡_, ap}
+use native.Mathlib.Omega.{arith}
+use borrow.Author.Needs.{needs}
+use Rattle.gregorian.specs.Calendar.{dateOf}
+use Rattle.gregorian.specs.declared.Date.{Date}
+use Rattle.markets.specs.Us.{getUsHolidays}
+use Rattle.markets.specs.Uk.{getUkHolidays}
+use Rattle.markets.specs.Japan.{getJapanHolidays}
+use Rattle.markets.specs.Canada.{getCanadaHolidays}
+use Rattle.markets.specs.Markets.{holidays}
+use Rattle.markets.proofs.MarketLaws.{year-range, us-market, no-market, by-code}
+use Rattle.markets.proofs.is_holiday.Statement.{statement}
+use Rattle.markets.proofs.is_holiday.Tie as tie
+
+-- the year that date_of gives
+known-year : (c : tie.After-date-of) → c .date-of .result .year ≡ dateOf (c .before .args .n) .year
+known-year c = ap (λ (t : Date). t .year) (c .date-of .ensures)
+
+is-uk-holiday-requires : tie.Need-is-uk-holiday-requires
+is-uk-holiday-requires c κs = year-range _ _ (c .before .before .pre) (known-year (c .before))
+
+is-japan-holiday-requires : tie.Need-is-japan-holiday-requires
+is-japan-holiday-requires c κs = year-range _ _ (c .before .before .pre) (known-year (c .before))
+
+is-canada-holiday-requires : tie.Need-is-canada-holiday-requires
+is-canada-holiday-requires c κs = year-range _ _ (c .before .before .pre) (known-year (c .before))
+
+is-us-holiday-requires : tie.Need-is-us-holiday-requires
+is-us-holiday-requires c κs = year-range _ _ (c .before .before .before .pre) (known-year (c .before .before))
+
+returns : tie.Need-returns
+unfolding holidays
+returns c =
+    by-code _ _ _ getUkHolidays _ (c .is-uk-holiday .ensures) (known-year (c .before .before)) (ap holidays (c .before .match .keys1))
+
+returns-2 : tie.Need-returns-2
+unfolding holidays
+returns-2 c =
+    by-code _ _ _ getJapanHolidays _ (c .is-japan-holiday .ensures) (known-year (c .before .before)) (ap holidays (c .before .match .keys2))
+
+returns-3 : tie.Need-returns-3
+unfolding holidays
+returns-3 c =
+    by-code _ _ _ getCanadaHolidays _ (c .is-canada-holiday .ensures) (known-year (c .before .before)) (ap holidays (c .before .match .keys3))
+
+returns-4 : tie.Need-returns-4
+returns-4 c =
+    by-code _ _ _ getUsHolidays _ (c .is-us-holiday .ensures) (known-year (c .before .before .before)) (us-market _ (c .before .if1 .taken))
+
+returns-5 : tie.Need-returns-5
+returns-5 c = no-market _ _ (omega (arith, c .if1 .left, c .before .match .rest))
+
+pub is-holiday-spec : {M : Type 1} → statement M
+is-holiday-spec =
+    tie.close
+    (tie.spec (search needs) is-uk-holiday-requires is-japan-holiday-requires is-canada-holiday-requires is-us-holiday-requires returns
+    returns-2 returns-3 returns-4 returns-5)

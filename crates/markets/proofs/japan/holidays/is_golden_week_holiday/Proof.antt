@@ -1,0 +1,19 @@
+-- `markets::japan::holidays::is_golden_week_holiday` meets its contract: the tests, one by one.
+use mathlib.Core.Bool.{_||_}
+use borrow.Author.Needs.{needs}
+use Rattle.markets.specs.Japan.{isGoldenWeekHoliday}
+use Rattle.markets.proofs.japan.holidays.is_golden_week_holiday.Statement.{statement}
+use Rattle.markets.proofs.japan.holidays.is_golden_week_holiday.Tie as tie
+
+returns : tie.Need-returns
+unfolding isGoldenWeekHoliday
+returns c =
+    let c1 = c .before in
+    let c2 = c1 .before in
+    let c3 = c2 .before in
+    (λ j. c3 .is-fixed-holiday .ensures j || c2 .is-fixed-holiday2 .ensures j || c1 .is-fixed-holiday3 .ensures j || c .is-bridge-day .ensures j)
+
+pub is-golden-week-holiday-spec : {M : Type 1} → statement M
+is-golden-week-holiday-spec =
+    tie.close
+    (tie.spec (λ c κs. search needs) (λ c κs. search needs) (λ c κs. search needs) (λ c κs. search needs) returns)

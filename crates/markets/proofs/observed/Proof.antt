@@ -1,0 +1,12 @@
+-- `markets::observed` meets its contract: the day, moved.
+use mathlib.Core.Path.{ap, _∙_}
+use borrow.Author.Needs.{needs}
+use Rattle.markets.specs.Days.{adjustForWeekend}
+use Rattle.markets.proofs.observed.Statement.{statement}
+use Rattle.markets.proofs.observed.Tie as tie
+
+returns : tie.Need-returns
+returns c = c .adjust-for-weekend .ensures ∙ ap adjustForWeekend (c .before .fixed-day .ensures .0)
+
+pub observed-spec : {M : Type 1} → statement M
+observed-spec = tie.close (tie.spec (λ c κs. c .pre) (search needs) returns)

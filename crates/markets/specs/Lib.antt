@@ -1,0 +1,6 @@
+pub mod Days
+pub mod Us
+pub mod Uk
+pub mod Canada
+pub mod Japan
+pub mod Markets

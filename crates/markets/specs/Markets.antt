@@ -1,0 +1,32 @@
+-- Which days trade, as src/markets/mod.rs has it: docs/SCOPE.md [markets], [trading-day], [is-holiday]. Assumes nothing.
+use Prim.Native.Nat.{ℕ}
+use mathlib.Core.Bool.{Bool, not, _&&_, _||_}
+use mathlib.Core.List.{List, [], _∷_}
+use lib.Dec.{eqb}
+use lib.ListN.{getD}
+use Rattle.gregorian.specs.Calendar.{saturday, sunday, dateOf, weekdayOf}
+use Rattle.markets.specs.Days.{contains}
+use Rattle.markets.specs.Us.{getUsHolidays}
+use Rattle.markets.specs.Uk.{getUkHolidays}
+use Rattle.markets.specs.Canada.{getCanadaHolidays}
+use Rattle.markets.specs.Japan.{getJapanHolidays}
+
+-- the holidays of each market in a year, in the order of the codes: NYSE, NASDAQ, LSE, TSE, TSX
+abbrev pub implementations : List (ℕ → List ℕ)
+implementations = getUsHolidays ∷ getUsHolidays ∷ getUkHolidays ∷ getJapanHolidays ∷ getCanadaHolidays ∷ []
+
+-- The holidays of a market in a year; none of a code above 4.
+unfoldable pub holidays : ℕ → ℕ → List ℕ
+holidays market = getD implementations market (λ year. [])
+
+-- is_weekend
+unfoldable pub isWeekend : ℕ → Bool
+isWeekend n = eqb (weekdayOf n) saturday || eqb (weekdayOf n) sunday
+
+-- MarketImpl::is_holiday: day n is among the holidays of its year, on a weekend or not.
+unfoldable pub isHoliday : ℕ → ℕ → Bool
+isHoliday market n = contains (holidays market (dateOf n .year)) n
+
+-- MarketImpl::is_trading_day
+unfoldable pub isTradingDay : ℕ → ℕ → Bool
+isTradingDay market n = not (isHoliday market n) && not (isWeekend n)

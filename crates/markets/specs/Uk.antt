@@ -1,0 +1,41 @@
+-- The holidays of LSE, as src/markets/uk/holidays.rs has them: docs/SCOPE.md [lse-holidays]. Assumes nothing.
+use Prim.Native.Nat.{ℕ, _+_}
+use mathlib.Core.Bool.{Bool, cond, _||_}
+use mathlib.Core.List.{List, []}
+use lib.Dec.{eqb}
+use Rattle.gregorian.specs.Calendar.{monday, friday, saturday, sunday, dayNumber, weekdayOf}
+use Rattle.utils.specs.Weekday.{nthWeekdayOfMonth, lastWeekdayOfMonth}
+use Rattle.utils.specs.Easter.{calculateGoodFriday, calculateEasterMonday}
+use Rattle.markets.specs.Days.{insert, insertDay, adjustForWeekend}
+
+-- add_boxing_day
+unfoldable pub addBoxingDay : List ℕ → ℕ → List ℕ
+addBoxingDay holidays year =
+    let christmas = dayNumber year 12 25 in
+    let boxing = dayNumber year 12 26 in
+    cond (eqb (weekdayOf christmas) friday) (insert (insert holidays christmas) (boxing + 2))
+    (cond (eqb (weekdayOf christmas) saturday) (insert (insert holidays (dayNumber year 12 27)) (dayNumber year 12 28))
+    (cond (eqb (weekdayOf christmas) sunday) (insert (insert holidays boxing) (dayNumber year 12 27))
+    (insert (insert holidays christmas) (adjustForWeekend boxing))))
+
+-- The shorter account of Christmas Day and add_boxing_day, [lse-holidays]: n is one of the two days of December.
+unfoldable pub isChristmasOrBoxingDay : ℕ → ℕ → Bool
+isChristmasOrBoxingDay year n =
+    let christmas = dayNumber year 12 25 in
+    cond (eqb (weekdayOf christmas) friday) (eqb n christmas || eqb n (christmas + 3))
+    (cond (eqb (weekdayOf christmas) saturday) (eqb n (christmas + 2) || eqb n (christmas + 3))
+    (cond (eqb (weekdayOf christmas) sunday) (eqb n (christmas + 1) || eqb n (christmas + 2))
+    (eqb n christmas || eqb n (christmas + 1))))
+
+-- New Year's Day, on Monday if on a weekend; Good Friday; Easter Monday; Early May Bank Holiday; Spring Bank Holiday; Summer
+-- Bank Holiday; Christmas Day and Boxing Day, on the next weekdays that are free if on a weekend.
+unfoldable pub getUkHolidays : ℕ → List ℕ
+getUkHolidays year =
+    let holidays = insert [] (adjustForWeekend (dayNumber year 1 1)) in
+    let holidays = insertDay holidays (calculateGoodFriday year) in
+    let holidays = insertDay holidays (calculateEasterMonday year) in
+    let holidays = insertDay holidays (nthWeekdayOfMonth year 5 monday 1) in
+    let holidays = insertDay holidays (lastWeekdayOfMonth year 5 monday) in
+    let holidays = insertDay holidays (lastWeekdayOfMonth year 8 monday) in
+    let holidays = insert holidays (adjustForWeekend (dayNumber year 12 25)) in
+    addBoxingDay holidays year

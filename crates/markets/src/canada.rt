@@ -1,0 +1,2 @@
+// TSX, as src/markets/canada of the Rust.
+pub mod holidays;

@@ -1,0 +1,2 @@
+// TSE, as src/markets/japan of the Rust.
+pub mod holidays;

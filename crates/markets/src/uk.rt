@@ -1,0 +1,2 @@
+// LSE, as src/markets/uk of the Rust.
+pub mod holidays;

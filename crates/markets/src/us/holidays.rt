@@ -1,0 +1,125 @@
+// The holidays of NYSE and NASDAQ, as src/markets/us/holidays.rs has them: docs/SCOPE.md [us-holidays].
+ghost use mathlib.Core.Path.{_≡_};
+ghost use mathlib.Core.Bool.{_&&_};
+ghost use Prim.Native.Nat.{_≤_};
+ghost use lib.Dec.{leb, eqb};
+ghost use Rattle.gregorian.specs.Calendar.{lastYear};
+ghost use Rattle.markets.specs.Days.{contains, isDay};
+ghost use Rattle.markets.specs.Us.{newYearsDay, mlkDay, presidentsDay, memorialDay, independenceDay, laborDay, thanksgivingDay, juneteenth, christmasDay, getUsHolidays};
+use crate::fixed_day;
+use crate::is_good_friday;
+use crate::observed;
+use gregorian::MONDAY;
+use gregorian::SATURDAY;
+use gregorian::SUNDAY;
+use gregorian::THURSDAY;
+use utils::OptionalDay;
+use utils::last_weekday_of_month;
+use utils::nth_weekday_of_month;
+
+// Whether day n is a holiday of the year.
+pub fn is_us_holiday(year: u32, n: u32) -> bool
+    requires { ⌜ (1 ≤ year) × (year ≤ lastYear) ⌝ }
+    ensures { λ r. ⌜ r ≡ contains (getUsHolidays year) n ⌝ }
+{
+    (n == new_years_day(year))
+        | (n == independence_day(year))
+        | (n == christmas_day(year))
+        | is_juneteenth(year, n)
+        | is_mlk_day(year, n)
+        | is_presidents_day(year, n)
+        | is_memorial_day(year, n)
+        | is_labor_day(year, n)
+        | is_thanksgiving_day(year, n)
+        | is_good_friday(year, n)
+}
+
+// 1 January, on Monday if on a weekend.
+fn new_years_day(year: u32) -> u32
+    requires { ⌜ (1 ≤ year) × (year ≤ lastYear) ⌝ }
+    ensures { λ r. ⌜ r ≡ newYearsDay year ⌝ }
+{
+    observed(year, 1, 1)
+}
+
+// Martin Luther King Jr. Day: the 3rd Monday of January.
+fn is_mlk_day(year: u32, n: u32) -> bool
+    ensures { λ r. ⌜ r ≡ isDay (mlkDay year) n ⌝ }
+{
+    let OptionalDay::Day(mlk_day) = nth_weekday_of_month(year, 1, MONDAY, 3) else {
+        return false;
+    };
+    n == mlk_day
+}
+
+// The 3rd Monday of February.
+fn is_presidents_day(year: u32, n: u32) -> bool
+    ensures { λ r. ⌜ r ≡ isDay (presidentsDay year) n ⌝ }
+{
+    let OptionalDay::Day(presidents_day) = nth_weekday_of_month(year, 2, MONDAY, 3) else {
+        return false;
+    };
+    n == presidents_day
+}
+
+// The last Monday of May.
+fn is_memorial_day(year: u32, n: u32) -> bool
+    ensures { λ r. ⌜ r ≡ isDay (memorialDay year) n ⌝ }
+{
+    let OptionalDay::Day(memorial_day) = last_weekday_of_month(year, 5, MONDAY) else {
+        return false;
+    };
+    n == memorial_day
+}
+
+// 4 July, on Friday if on a Saturday and on Monday if on a Sunday.
+fn independence_day(year: u32) -> u32
+    requires { ⌜ (1 ≤ year) × (year ≤ lastYear) ⌝ }
+    ensures { λ r. ⌜ r ≡ independenceDay year ⌝ }
+{
+    let july_4 = fixed_day(year, 7, 4);
+    match gregorian::weekday(july_4) {
+        SATURDAY => july_4 - 1,
+        SUNDAY => july_4 + 1,
+        _ => july_4,
+    }
+}
+
+// The 1st Monday of September.
+fn is_labor_day(year: u32, n: u32) -> bool
+    ensures { λ r. ⌜ r ≡ isDay (laborDay year) n ⌝ }
+{
+    let OptionalDay::Day(labor_day) = nth_weekday_of_month(year, 9, MONDAY, 1) else {
+        return false;
+    };
+    n == labor_day
+}
+
+// The 4th Thursday of November.
+fn is_thanksgiving_day(year: u32, n: u32) -> bool
+    ensures { λ r. ⌜ r ≡ isDay (thanksgivingDay year) n ⌝ }
+{
+    let OptionalDay::Day(thanksgiving_day) = nth_weekday_of_month(year, 11, THURSDAY, 4) else {
+        return false;
+    };
+    n == thanksgiving_day
+}
+
+// 19 June, on Monday if on a weekend, from 2021 on.
+fn is_juneteenth(year: u32, n: u32) -> bool
+    requires { ⌜ (1 ≤ year) × (year ≤ lastYear) ⌝ }
+    ensures { λ r. ⌜ r ≡ (leb 2021 year && eqb n (juneteenth year)) ⌝ }
+{
+    if year < 2021 {
+        return false;
+    }
+    n == observed(year, 6, 19)
+}
+
+// 25 December, on Monday if on a weekend.
+fn christmas_day(year: u32) -> u32
+    requires { ⌜ (1 ≤ year) × (year ≤ lastYear) ⌝ }
+    ensures { λ r. ⌜ r ≡ christmasDay year ⌝ }
+{
+    observed(year, 12, 25)
+}
