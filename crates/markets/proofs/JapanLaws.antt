@@ -4,10 +4,11 @@ use Prim.Native.Nat.{ℕ, zero, suc, _+_, _-_, _*_, _≤_, _<_}
 use mathlib.Core.Path.{_≡_, refl, ap, sym, _∙_, subst}
 use mathlib.Core.Bool.{Bool, true, false, cond, _&&_, _||_}
 use mathlib.Core.List.{List, [], _∷_, _++_}
-use mathlib.Core.Logic.{_⊎_, inl, inr}
+use mathlib.Core.Logic.{_⊎_, inl, inr, ⊎-elim}
 use lib.Dec.{ltb, leb, eqb, lit≤}
 use lib.ListN.{getD}
 use native.Mathlib.Omega.{arith}
+use native.Mathlib.Nat.{eq-or-lt-of-le, le-of-suc-le-suc}
 use borrow.Author.Tests.{leb-true, ltb-true, eqb-true, eqb-false, ne-eqb}
 use Rattle.gregorian.specs.Calendar.{monday, tuesday, thursday, friday, sunday, monthLength, dayNumber, lastYear, isDate, weekdayOf, Exists, date}
 use Rattle.gregorian.proofs.Tests.{and-left, and-right}
@@ -18,19 +19,29 @@ use Rattle.utils.specs.declared.OptionalDay.the-variants.{Day, None}
 use Rattle.utils.specs.Weekday.{nthWeekdayOfMonth}
 use Rattle.utils.proofs.WeekdayLaws.{when-day, first-near, nth-weekday}
 use Rattle.markets.specs.Days.{contains, insert, insertIf, insertDay, isDay, everyYearHas}
-use Rattle.markets.specs.Japan.{substituteDay, addWithSubstitute, addDayWithSubstitute, vernalDays, autumnalDays, equinox, calculateVernalEquinox, calculateAutumnalEquinox, applyGoldenWeekRules, getJapanHolidays, withSubstitute, dayWithSubstitute, isBridgeDay, isHolidayToMarch, isGoldenWeekHoliday, isHolidayFromJuly, shortAccount}
+use Rattle.markets.specs.Japan.{substituteDay, addWithSubstitute, addDayWithSubstitute, vernalDays, autumnalDays, equinox, calculateVernalEquinox, calculateAutumnalEquinox, everyMonthHas, applyGoldenWeekRules, getJapanHolidays, withSubstitute, dayWithSubstitute, isBridgeDay, isHolidayToMarch, isGoldenWeekHoliday, isHolidayFromJuly, shortAccount}
 use Rattle.markets.proofs.DayLaws.{or-assoc, or-false, contains-none, contains-insert, contains-if, contains-day, every-year-date}
 
 -- The equinoxes.
-pub vernal-range : (i : ℕ) → i < 11 → (20 ≤ getD vernalDays i 0) × (getD vernalDays i 0 ≤ 21)
+vernal-range : (i : ℕ) → i < 11 → (20 ≤ getD vernalDays i 0) × (getD vernalDays i 0 ≤ 21)
 vernal-range i h = upto (λ i. (20 ≤ getD vernalDays i 0) × (getD vernalDays i 0 ≤ 21)) 11 (omega arith) i h
 
-pub autumnal-range : (i : ℕ) → i < 11 → (22 ≤ getD autumnalDays i 0) × (getD autumnalDays i 0 ≤ 23)
+autumnal-range : (i : ℕ) → i < 11 → (22 ≤ getD autumnalDays i 0) × (getD autumnalDays i 0 ≤ 23)
 autumnal-range i h = upto (λ i. (22 ≤ getD autumnalDays i 0) × (getD autumnalDays i 0 ≤ 23)) 11 (omega arith) i h
 
-pub equinox-date : (days : List ℕ) (m y : ℕ) → 2020 ≤ y → y ≤ 2030 → (1 ≤ m) × (m ≤ 12) × ((i : ℕ) → i < 11 → (1 ≤ getD days i 0) × (getD days i 0 ≤ 28)) → isDate y m (getD days (y - 2020) 0) ≡ true
+table-day : (days : List ℕ) (k i : ℕ) → everyMonthHas days k ≡ true → i < k → (1 ≤ getD days i 0) × (getD days i 0 ≤ 28)
+table-day days zero i e h = absurd (omega arith)
+table-day days (suc k) i e h =
+    let low = leb 1 (getD days k 0) in
+    let high = leb (getD days k 0) 28 in
+    let here = and-left (low && high) _ e in
+    ⊎-elim (λ (q : i ≡ k). subst (λ (m : ℕ). (1 ≤ getD days m 0) × (getD days m 0 ≤ 28)) (sym q) (leb-true 1 _ (and-left low _ here), leb-true _ 28 (and-right low _ here)))
+    (λ (q : i < k). table-day days k i (and-right (low && high) _ e) q)
+    (eq-or-lt-of-le (le-of-suc-le-suc h))
+
+pub equinox-date : (days : List ℕ) (m y : ℕ) → 2020 ≤ y → y ≤ 2030 → (1 ≤ m) × (m ≤ 12) × (everyMonthHas days 11 ≡ true) → isDate y m (getD days (y - 2020) 0) ≡ true
 equinox-date days m y l h k =
-    let d = k .2 (y - 2020) (omega arith) in
+    let d = table-day days 11 (y - 2020) (k .2) (omega arith) in
     date-by y m _ (omega arith, omega arith) (k .0, k .1) (d .0, omega (arith, d, month-low y m (k .0) (k .1)))
 
 in-month : (y m d e : ℕ) → d ≤ e → dayNumber y m d ≤ dayNumber y m e

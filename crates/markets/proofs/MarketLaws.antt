@@ -30,8 +30,8 @@ unfolding isHoliday holidays
 no-market m n h =
     sym (ap (λ (f : ℕ → List ℕ). contains (f (dateOf n .year)) n) (List·getD-eq-default implementations (λ year. []) {n = m} (omega arith)) ∙ contains-none n)
 
--- an answer for the year of n, and the code of the market
-pub by-code : (m n y : ℕ) (f : ℕ → List ℕ) (r : Bool) → r ≡ contains (f y) n → y ≡ dateOf n .year → holidays m ≡ f → r ≡ isHoliday m n
+-- an answer for the year y, which is that of n, and the code k, which is that of the market
+pub by-code : (m k n y : ℕ) (r : Bool) → r ≡ contains (holidays k y) n → y ≡ dateOf n .year → m ≡ k → r ≡ isHoliday m n
 unfolding isHoliday
-by-code m n y f r e d h =
-    e ∙ ap (λ (i : ℕ). contains (f i) n) d ∙ ap (λ (g : ℕ → List ℕ). contains (g (dateOf n .year)) n) (sym h)
+by-code m k n y r e d h =
+    e ∙ ap (λ (i : ℕ). contains (holidays k i) n) d ∙ ap (λ (i : ℕ). contains (holidays i (dateOf n .year)) n) (sym h)

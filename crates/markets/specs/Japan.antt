@@ -1,6 +1,6 @@
 -- The holidays of TSE, as src/markets/japan/holidays.rs has them: docs/SCOPE.md [tse-holidays]. Assumes nothing.
 use Prim.Native.Nat.{ℕ, zero, suc, _+_, _-_}
-use mathlib.Core.Bool.{Bool, false, cond, _&&_, _||_}
+use mathlib.Core.Bool.{Bool, true, false, cond, _&&_, _||_}
 use mathlib.Core.List.{List, [], _∷_}
 use lib.Dec.{leb, eqb}
 use lib.ListN.{getD}
@@ -83,6 +83,11 @@ getJapanHolidays year =
     let holidays = addWithSubstitute holidays (dayNumber year 11 3) in
     let holidays = addWithSubstitute holidays (dayNumber year 11 23) in
     insert holidays (dayNumber year 12 31)
+
+-- the first k days of a table are days that every month has
+abbrev pub everyMonthHas : List ℕ → ℕ → Bool
+everyMonthHas days zero = true
+everyMonthHas days (suc k) = leb 1 (getD days k 0) && leb (getD days k 0) 28 && everyMonthHas days k
 
 -- The shorter account, docs/SCOPE.md [tse-substitute]: n is the date or, if that is a Sunday, the day after it.
 abbrev pub withSubstitute : ℕ → ℕ → Bool

@@ -36,7 +36,7 @@ pub const LAST_MARKET: u32 = TSX;
 // A day that every year has.
 fn fixed_day(year: u32, month: u32, day: u32) -> u32
     requires { ⌜ (1 ≤ year) × (year ≤ lastYear) × (everyYearHas month day ≡ true) ⌝ }
-    ensures { λ r. ⌜ (r ≡ dayNumber year month day) × (1 ≤ r) × (r ≤ lastDay) ⌝ }
+    ensures { λ r. ⌜ (r ≡ dayNumber year month day) × (1 ≤ r) × (day ≤ r) × (r ≤ lastDay) ⌝ }
 {
     gregorian::day_number(year, month, day)
 }

@@ -1,7 +1,7 @@
 -- `markets::fixed_day` meets its contract: every year has the day.
 use native.Mathlib.Omega.{arith}
 use Rattle.gregorian.proofs.Laws.{number-range}
-use Rattle.markets.proofs.DayLaws.{every-year-date}
+use Rattle.markets.proofs.DayLaws.{day-low, every-year-date}
 use Rattle.markets.proofs.fixed_day.Statement.{statement}
 use Rattle.markets.proofs.fixed_day.Tie as tie
 
@@ -11,8 +11,9 @@ day-number-requires c κs = every-year-date _ _ _ (c .pre)
 returns : tie.Need-returns
 returns c =
     let e = c .day-number .ensures in
-    let r = number-range _ _ _ (every-year-date (c .before .args .year) (c .before .args .month) (c .before .args .day) (c .before .pre)) in
-    (e, omega (arith, e, r), omega (arith, e, r))
+    let s = c .before .args in
+    let r = number-range _ _ _ (every-year-date (s .year) (s .month) (s .day) (c .before .pre)) in
+    (e, omega (arith, e, r), omega (arith, e, day-low (s .year) (s .month) (s .day)), omega (arith, e, r))
 
 pub fixed-day-spec : {M : Type 1} → statement M
 fixed-day-spec = tie.close (tie.spec day-number-requires returns)

@@ -1,13 +1,12 @@
 -- `markets::is_holiday` meets its contract: each arm of the code.
-use mathlib.Core.Path.{_≡_, ap}
+use Prim.Native.Nat.{ℕ}
+use mathlib.Core.Path.{_≡_, refl, ap, sym, _∙_}
+use mathlib.Core.List.{List}
 use native.Mathlib.Omega.{arith}
 use borrow.Author.Needs.{needs}
 use Rattle.gregorian.specs.Calendar.{dateOf}
 use Rattle.gregorian.specs.declared.Date.{Date}
-use Rattle.markets.specs.Us.{getUsHolidays}
-use Rattle.markets.specs.Uk.{getUkHolidays}
-use Rattle.markets.specs.Japan.{getJapanHolidays}
-use Rattle.markets.specs.Canada.{getCanadaHolidays}
+use Rattle.markets.specs.Days.{contains}
 use Rattle.markets.specs.Markets.{holidays}
 use Rattle.markets.proofs.MarketLaws.{year-range, us-market, no-market, by-code}
 use Rattle.markets.proofs.is_holiday.Statement.{statement}
@@ -31,22 +30,22 @@ is-us-holiday-requires c κs = year-range _ _ (c .before .before .before .pre) (
 
 returns : tie.Need-returns
 unfolding holidays
-returns c =
-    by-code _ _ _ getUkHolidays _ (c .is-uk-holiday .ensures) (known-year (c .before .before)) (ap holidays (c .before .match .keys1))
+returns c = by-code _ 2 _ _ _ (c .is-uk-holiday .ensures) (known-year (c .before .before)) (c .before .match .keys1)
 
 returns-2 : tie.Need-returns-2
 unfolding holidays
-returns-2 c =
-    by-code _ _ _ getJapanHolidays _ (c .is-japan-holiday .ensures) (known-year (c .before .before)) (ap holidays (c .before .match .keys2))
+returns-2 c = by-code _ 3 _ _ _ (c .is-japan-holiday .ensures) (known-year (c .before .before)) (c .before .match .keys2)
 
 returns-3 : tie.Need-returns-3
 unfolding holidays
-returns-3 c =
-    by-code _ _ _ getCanadaHolidays _ (c .is-canada-holiday .ensures) (known-year (c .before .before)) (ap holidays (c .before .match .keys3))
+returns-3 c = by-code _ 4 _ _ _ (c .is-canada-holiday .ensures) (known-year (c .before .before)) (c .before .match .keys3)
 
 returns-4 : tie.Need-returns-4
 returns-4 c =
-    by-code _ _ _ getUsHolidays _ (c .is-us-holiday .ensures) (known-year (c .before .before .before)) (us-market _ (c .before .if1 .taken))
+    let s = c .before .before .before in
+    let n = s .before .args .n in
+    let e = us-market (s .before .args .market) (c .before .if1 .taken) in
+    by-code _ _ _ _ _ (c .is-us-holiday .ensures ∙ ap (λ (f : ℕ → List ℕ). contains (f (s .date-of .result .year)) n) (sym e)) (known-year s) refl
 
 returns-5 : tie.Need-returns-5
 returns-5 c = no-market _ _ (omega (arith, c .if1 .left, c .before .match .rest))

@@ -2,12 +2,11 @@
 // next day: the Rust places it before any later holiday is in its set.
 ghost use mathlib.Core.Path.{_≡_};
 ghost use mathlib.Core.Bool.{true};
-ghost use Prim.Native.Nat.{ℕ, _≤_, _<_};
-ghost use lib.ListN.{getD};
+ghost use Prim.Native.Nat.{_≤_};
 ghost use Rattle.gregorian.specs.Calendar.{monday, lastYear, lastDay, dayNumber};
 ghost use Rattle.utils.specs.Weekday.{nthWeekdayOfMonth};
 ghost use Rattle.markets.specs.Days.{contains, everyYearHas, isDay};
-ghost use Rattle.markets.specs.Japan.{withSubstitute, dayWithSubstitute, equinox, isBridgeDay, isHolidayToMarch, isGoldenWeekHoliday, isHolidayFromJuly, getJapanHolidays};
+ghost use Rattle.markets.specs.Japan.{everyMonthHas, withSubstitute, dayWithSubstitute, equinox, isBridgeDay, isHolidayToMarch, isGoldenWeekHoliday, isHolidayFromJuly, getJapanHolidays};
 use crate::fixed_day;
 use gregorian::MONDAY;
 use gregorian::SUNDAY;
@@ -85,7 +84,7 @@ fn is_with_substitute(date: u32, n: u32) -> bool
 
 // The equinox of the year, by its days in 2020 to 2030, or its substitute.
 fn is_equinox(days: [u32; 11], month: u32, year: u32, n: u32) -> bool
-    requires { ⌜ (1 ≤ month) × (month ≤ 12) × ((i : ℕ) → i < 11 → (1 ≤ getD days i 0) × (getD days i 0 ≤ 28)) ⌝ }
+    requires { ⌜ (1 ≤ month) × (month ≤ 12) × (everyMonthHas days 11 ≡ true) ⌝ }
     ensures { λ r. ⌜ r ≡ dayWithSubstitute (equinox days month year) n ⌝ }
 {
     if year < 2020 {

@@ -1,15 +1,10 @@
--- `markets::japan::holidays::is_holiday_from_july` meets its contract: the tests, one by one; the days of the table are days of the month.
+-- `markets::japan::holidays::is_holiday_from_july` meets its contract: the tests, one by one.
 use mathlib.Core.Bool.{_||_}
 use lib.Dec.{eqb}
-use native.Mathlib.Omega.{arith}
 use borrow.Author.Needs.{needs}
-use Rattle.markets.specs.Japan.{autumnalDays, isHolidayFromJuly}
-use Rattle.markets.proofs.JapanLaws.{autumnal-range}
+use Rattle.markets.specs.Japan.{isHolidayFromJuly}
 use Rattle.markets.proofs.japan.holidays.is_holiday_from_july.Statement.{statement}
 use Rattle.markets.proofs.japan.holidays.is_holiday_from_july.Tie as tie
-
-is-equinox-requires : tie.Need-is-equinox-requires
-is-equinox-requires c κs = (omega arith, omega arith, λ i h. omega (arith, autumnal-range i h))
 
 returns : tie.Need-returns
 unfolding isHolidayFromJuly
@@ -27,4 +22,4 @@ returns c =
 pub is-holiday-from-july-spec : {M : Type 1} → statement M
 is-holiday-from-july-spec =
     tie.close
-    (tie.spec (search needs) (λ c κs. search needs) (search needs) is-equinox-requires (search needs) (λ c κs. search needs) (λ c κs. search needs) (λ c κs. search needs) returns)
+    (tie.spec (search needs) (λ c κs. search needs) (search needs) (λ c κs. search needs) (search needs) (λ c κs. search needs) (λ c κs. search needs) (λ c κs. search needs) returns)

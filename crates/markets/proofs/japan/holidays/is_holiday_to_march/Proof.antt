@@ -1,14 +1,9 @@
--- `markets::japan::holidays::is_holiday_to_march` meets its contract: the tests, one by one; the days of the table are days of the month.
+-- `markets::japan::holidays::is_holiday_to_march` meets its contract: the tests, one by one.
 use mathlib.Core.Bool.{_||_}
-use native.Mathlib.Omega.{arith}
 use borrow.Author.Needs.{needs}
-use Rattle.markets.specs.Japan.{vernalDays, isHolidayToMarch}
-use Rattle.markets.proofs.JapanLaws.{vernal-range}
+use Rattle.markets.specs.Japan.{isHolidayToMarch}
 use Rattle.markets.proofs.japan.holidays.is_holiday_to_march.Statement.{statement}
 use Rattle.markets.proofs.japan.holidays.is_holiday_to_march.Tie as tie
-
-is-equinox-requires : tie.Need-is-equinox-requires
-is-equinox-requires c κs = (omega arith, omega arith, λ i h. omega (arith, vernal-range i h))
 
 returns : tie.Need-returns
 unfolding isHolidayToMarch
@@ -24,4 +19,4 @@ returns c =
 pub is-holiday-to-march-spec : {M : Type 1} → statement M
 is-holiday-to-march-spec =
     tie.close
-    (tie.spec (λ c κs. search needs) (λ c κs. search needs) (λ c κs. search needs) (search needs) (λ c κs. search needs) (λ c κs. search needs) is-equinox-requires returns)
+    (tie.spec (λ c κs. search needs) (λ c κs. search needs) (λ c κs. search needs) (search needs) (λ c κs. search needs) (λ c κs. search needs) (λ c κs. search needs) returns)
