@@ -2,13 +2,13 @@
 -- Assumes nothing.
 use Prim.Native.Nat.{ℕ, _≤_}
 use mathlib.Core.Path.{_≡_, refl, ap, sym, _∙_}
-use mathlib.Core.Bool.{Bool, true, false, cond, _&&_, _||_}
+use mathlib.Core.Bool.{Bool, true, false, _&&_, _||_}
 use mathlib.Core.List.{List, [], _∷_, _++_}
 use lib.Dec.{leb, eqb}
 use lib.ListN.{getD}
 use native.Mathlib.Omega.{arith}
 use borrow.Author.Tests.{leb-true, ne-eqb}
-use Rattle.gregorian.specs.Calendar.{saturday, sunday, weekdayOf, monthLength, dayNumber, lastYear, lastDay, isDate}
+use Rattle.gregorian.specs.Calendar.{saturday, sunday, weekdayOf, monthLength, dayNumber, lastYear, isDate}
 use Rattle.gregorian.proofs.Tests.{and-left, and-right}
 use Rattle.gregorian.proofs.Total.{upto}
 use Rattle.gregorian.proofs.Laws.{date-by}

@@ -9,8 +9,8 @@ use lib.Dec.{ltb, leb, eqb, lit≤}
 use lib.ListN.{getD}
 use native.Mathlib.Omega.{arith}
 use native.Mathlib.Nat.{eq-or-lt-of-le, le-of-suc-le-suc}
-use borrow.Author.Tests.{leb-true, ltb-true, eqb-true, eqb-false, ne-eqb}
-use Rattle.gregorian.specs.Calendar.{monday, tuesday, thursday, friday, sunday, monthLength, dayNumber, lastYear, isDate, weekdayOf, Exists, date}
+use borrow.Author.Tests.{leb-true, ltb-true, eqb-true, ne-eqb}
+use Rattle.gregorian.specs.Calendar.{monday, friday, sunday, dayNumber, lastYear, isDate, weekdayOf, date}
 use Rattle.gregorian.proofs.Tests.{and-left, and-right}
 use Rattle.gregorian.proofs.Total.{upto}
 use Rattle.gregorian.proofs.Laws.{is-date, date-by, month-low, number-before}
@@ -19,8 +19,8 @@ use Rattle.utils.specs.declared.OptionalDay.the-variants.{Day, None}
 use Rattle.utils.specs.Weekday.{nthWeekdayOfMonth}
 use Rattle.utils.proofs.WeekdayLaws.{when-day, first-near, nth-weekday}
 use Rattle.markets.specs.Days.{contains, insert, insertIf, insertDay, isDay, everyYearHas}
-use Rattle.markets.specs.Japan.{substituteDay, addWithSubstitute, addDayWithSubstitute, vernalDays, autumnalDays, equinox, calculateVernalEquinox, calculateAutumnalEquinox, everyMonthHas, applyGoldenWeekRules, getJapanHolidays, withSubstitute, dayWithSubstitute, isBridgeDay, isHolidayToMarch, isGoldenWeekHoliday, isHolidayFromJuly, shortAccount}
-use Rattle.markets.proofs.DayLaws.{or-assoc, or-false, contains-none, contains-insert, contains-if, contains-day, every-year-date}
+use Rattle.markets.specs.Japan.{substituteDay, addWithSubstitute, addDayWithSubstitute, vernalDays, autumnalDays, equinox, everyMonthHas, applyGoldenWeekRules, getJapanHolidays, withSubstitute, dayWithSubstitute, isBridgeDay, isHolidayToMarch, isGoldenWeekHoliday, isHolidayFromJuly, shortAccount}
+use Rattle.markets.proofs.DayLaws.{or-assoc, or-false, contains-none, contains-insert, contains-if, every-year-date}
 
 -- The equinoxes.
 vernal-range : (i : ℕ) → i < 11 → (20 ≤ getD vernalDays i 0) × (getD vernalDays i 0 ≤ 21)

@@ -6,13 +6,29 @@ use mathlib.Core.Bool.{Bool, true, false, cond, _||_}
 use mathlib.Core.List.{List, []}
 use lib.Dec.{eqb}
 use native.Mathlib.Omega.{arith}
-use borrow.Author.Tests.{eqb-true, eqb-false}
+use borrow.Author.Tests.{eqb-true, eqb-false, ne-eqb}
 use Rattle.gregorian.specs.Calendar.{monday, friday, saturday, sunday, dayNumber, weekdayOf}
 use Rattle.utils.specs.Weekday.{nthWeekdayOfMonth, lastWeekdayOfMonth}
 use Rattle.utils.specs.Easter.{calculateGoodFriday, calculateEasterMonday}
 use Rattle.markets.specs.Days.{contains, insert, isDay, adjustForWeekend}
 use Rattle.markets.specs.Uk.{addBoxingDay, isChristmasOrBoxingDay, getUkHolidays}
 use Rattle.markets.proofs.DayLaws.{contains-none, contains-insert, contains-day, on-saturday, on-sunday, on-weekday}
+
+-- The test of the code, from Christmas Day d and its weekday w; where w is none of three weekdays, its last case.
+abbrev isOne : ℕ → ℕ → ℕ → Bool
+isOne n d w =
+    cond (eqb w friday) (eqb n d || eqb n (d + 3))
+    (cond (eqb w saturday) (eqb n (d + 2) || eqb n (d + 3))
+    (cond (eqb w sunday) (eqb n (d + 1) || eqb n (d + 2))
+    (eqb n d || eqb n (d + 1))))
+
+pub christmas-on : (k y n d w : ℕ) → w ≡ k → w ≡ weekdayOf d → d ≡ dayNumber y 12 25 → isOne n d k ≡ isChristmasOrBoxingDay y n
+unfolding isChristmasOrBoxingDay
+christmas-on k y n d w e f g = ap (isOne n d) (sym e ∙ f) ∙ ap (λ (x : ℕ). isOne n x (weekdayOf x)) g
+
+pub christmas-else : (y n d : ℕ) → d ≡ dayNumber y 12 25 → (weekdayOf d ≡ friday → ⊥) → (weekdayOf d ≡ saturday → ⊥) → (weekdayOf d ≡ sunday → ⊥) → (eqb n d || eqb n (d + 1)) ≡ isChristmasOrBoxingDay y n
+christmas-else y n d g p q r =
+    (simp (ne-eqb (weekdayOf d) friday p, ne-eqb (weekdayOf d) saturday q, ne-eqb (weekdayOf d) sunday r)) ∙ christmas-on (weekdayOf d) y n d _ refl refl g
 
 -- Christmas Day is inserted twice, and then Boxing Day.
 twice : (h a b : Bool) → (h || a || a || b) ≡ (h || (a || b))

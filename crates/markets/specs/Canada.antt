@@ -5,7 +5,7 @@ use mathlib.Core.List.{List, []}
 use lib.Dec.{leb, eqb}
 use Rattle.gregorian.specs.Calendar.{monday, friday, saturday, sunday, dayNumber, weekdayOf}
 use Rattle.utils.specs.declared.OptionalDay.{OptionalDay}
-use Rattle.utils.specs.declared.OptionalDay.the-variants.{Day, None}
+use Rattle.utils.specs.declared.OptionalDay.the-variants.{None}
 use Rattle.utils.specs.Weekday.{nthWeekdayOfMonth, lastUpTo}
 use Rattle.utils.specs.Easter.{calculateGoodFriday}
 use Rattle.markets.specs.Days.{insert, insertDay, adjustForWeekend}

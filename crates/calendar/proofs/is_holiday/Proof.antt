@@ -1,25 +1,21 @@
 -- `calendar::is_holiday` meets its contract: the day past the checks is that of a date, and an error stays.
-use mathlib.Core.Path.{_≡_, sym}
+use mathlib.Core.Path.{sym, _∙_}
 use borrow.Author.Needs.{needs}
 use Rattle.markets.specs.Markets.{isHoliday}
-use Rattle.calendar.specs.declared.DayResult.{DayResult}
-use Rattle.calendar.specs.Calls.{checkedDay}
 use Rattle.calendar.proofs.CallLaws.{day-in-years, after-ok, after-err}
 use Rattle.calendar.proofs.is_holiday.Statement.{statement}
 use Rattle.calendar.proofs.is_holiday.Tie as tie
 
--- in the first arm, the day is the one past the checks
-known : (c : tie.After-known-told) → (let a = c .before .before .before .before .args in DayResult.Ok (c .before .n .given .0 .0) ≡ checkedDay (a .market) (a .year) (a .month) (a .day))
-known c = cc
-
 is-holiday-requires : tie.Need-is-holiday-requires
-is-holiday-requires c κs = day-in-years _ _ _ _ _ (sym (known c))
+is-holiday-requires c κs = day-in-years _ _ _ _ _ (sym (c .before .before .before .checked-day .ensures) ∙ c .before .n .given .1)
 
 returns : tie.Need-returns
-returns c = after-ok _ _ _ _ (isHoliday _) _ _ (known (c .before)) (c .is-holiday .ensures)
+returns c =
+    let s = c .before .before in
+    after-ok _ _ _ _ (isHoliday _) _ _ (sym (s .n .given .1) ∙ s .before .before .checked-day .ensures) (c .is-holiday .ensures)
 
 returns-2 : tie.Need-returns-2
-returns-2 c = after-err _ _ _ _ (isHoliday _) _ (cc)
+returns-2 c = after-err _ _ _ _ (isHoliday _) _ (sym (c .before .e .given .1) ∙ c .before .before .before .checked-day .ensures)
 
 pub is-holiday-spec : {M : Type 1} → statement M
 is-holiday-spec =

@@ -1,10 +1,8 @@
 -- `markets::japan::holidays::is_equinox` meets its contract: before 2020, after 2030, and between them the day of the table.
-use mathlib.Core.Path.{_≡_, ap, _∙_}
-use mathlib.Core.Bool.{true}
+use mathlib.Core.Path.{ap, _∙_}
 use native.Mathlib.Omega.{arith}
 use borrow.Author.Tests.{lt-leb, le-leb}
 use borrow.Author.Needs.{needs}
-use Rattle.gregorian.specs.Calendar.{isDate}
 use Rattle.gregorian.proofs.Laws.{number-range}
 use Rattle.markets.specs.Japan.{withSubstitute, equinox}
 use Rattle.markets.proofs.JapanLaws.{equinox-date}

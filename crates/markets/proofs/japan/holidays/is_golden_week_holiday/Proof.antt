@@ -8,10 +8,8 @@ use Rattle.markets.proofs.japan.holidays.is_golden_week_holiday.Tie as 
 returns : tie.Need-returns
 unfolding isGoldenWeekHoliday
 returns c =
-    let c1 = c .before in
-    let c2 = c1 .before in
-    let c3 = c2 .before in
-    (λ j. c3 .is-fixed-holiday .ensures j || c2 .is-fixed-holiday2 .ensures j || c1 .is-fixed-holiday3 .ensures j || c .is-bridge-day .ensures j)
+    let s = c .before .before .before in
+    (λ j. s .is-fixed-holiday .ensures j || c .before .before .is-fixed-holiday2 .ensures j || c .before .is-fixed-holiday3 .ensures j || c .is-bridge-day .ensures j)
 
 pub is-golden-week-holiday-spec : {M : Type 1} → statement M
 is-golden-week-holiday-spec =

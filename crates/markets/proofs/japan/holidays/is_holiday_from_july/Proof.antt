@@ -9,15 +9,10 @@ use Rattle.markets.proofs.japan.holidays.is_holiday_from_july.Tie as ti
 returns : tie.Need-returns
 unfolding isHolidayFromJuly
 returns c =
-    let c1 = c .before in
-    let c2 = c1 .before in
-    let c3 = c2 .before in
-    let c4 = c3 .before in
-    let c5 = c4 .before in
-    let c6 = c5 .before in
-    let c7 = c6 .before in
-    let n = c7 .before .args .n in
-    (λ j. c7 .is-marine-day .ensures j || c6 .is-fixed-holiday .ensures j || c5 .is-respect-for-aged-day .ensures j || c4 .is-equinox .ensures j || c3 .is-health-and-sports-day .ensures j || c2 .is-fixed-holiday2 .ensures j || c1 .is-fixed-holiday3 .ensures j || eqb n (c .fixed-day .ensures .0 j))
+    let s = c .before .before .before in
+    let t = s .before .before .before in
+    let n = t .before .before .args .n in
+    (λ j. t .before .is-marine-day .ensures j || t .is-fixed-holiday .ensures j || s .before .before .is-respect-for-aged-day .ensures j || s .before .is-equinox .ensures j || s .is-health-and-sports-day .ensures j || c .before .before .is-fixed-holiday2 .ensures j || c .before .is-fixed-holiday3 .ensures j || eqb n (c .fixed-day .ensures .0 j))
 
 pub is-holiday-from-july-spec : {M : Type 1} → statement M
 is-holiday-from-july-spec =

@@ -8,13 +8,9 @@ use Rattle.markets.proofs.japan.holidays.is_holiday_to_march.Tie as tie
 returns : tie.Need-returns
 unfolding isHolidayToMarch
 returns c =
-    let c1 = c .before in
-    let c2 = c1 .before in
-    let c3 = c2 .before in
-    let c4 = c3 .before in
-    let c5 = c4 .before in
-    let c6 = c5 .before in
-    (λ j. c6 .is-fixed-holiday .ensures j || c5 .is-fixed-holiday2 .ensures j || c4 .is-fixed-holiday3 .ensures j || c3 .is-coming-of-age-day .ensures j || c2 .is-fixed-holiday4 .ensures j || c1 .is-fixed-holiday5 .ensures j || c .is-equinox .ensures j)
+    let s = c .before .before .before in
+    let t = s .before .before .before in
+    (λ j. t .is-fixed-holiday .ensures j || s .before .before .is-fixed-holiday2 .ensures j || s .before .is-fixed-holiday3 .ensures j || s .is-coming-of-age-day .ensures j || c .before .before .is-fixed-holiday4 .ensures j || c .before .is-fixed-holiday5 .ensures j || c .is-equinox .ensures j)
 
 pub is-holiday-to-march-spec : {M : Type 1} → statement M
 is-holiday-to-march-spec =

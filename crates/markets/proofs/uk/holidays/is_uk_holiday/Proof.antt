@@ -9,15 +9,11 @@ use Rattle.markets.proofs.uk.holidays.is_uk_holiday.Tie as tie
 
 returns : tie.Need-returns
 returns c =
-    let c1 = c .before in
-    let c2 = c1 .before in
-    let c3 = c2 .before in
-    let c4 = c3 .before in
-    let c5 = c4 .before in
-    let c6 = c5 .before in
-    let n = c6 .before .args .n in
-    (λ j. eqb n (c6 .observed .ensures j) || c5 .is-good-friday .ensures j || c4 .is-easter-monday .ensures j || c3 .is-early-may-bank-holiday .ensures j || c2 .is-spring-bank-holiday .ensures j || c1 .is-summer-bank-holiday .ensures j || c .is-christmas-or-boxing-day .ensures j)
-    ∙ sym (uk-contains (c6 .before .args .year) n)
+    let s = c .before .before .before in
+    let t = s .before .before .before in
+    let n = t .before .args .n in
+    (λ j. eqb n (t .observed .ensures j) || s .before .before .is-good-friday .ensures j || s .before .is-easter-monday .ensures j || s .is-early-may-bank-holiday .ensures j || c .before .before .is-spring-bank-holiday .ensures j || c .before .is-summer-bank-holiday .ensures j || c .is-christmas-or-boxing-day .ensures j)
+    ∙ sym (uk-contains (t .before .args .year) n)
 
 pub is-uk-holiday-spec : {M : Type 1} → statement M
 is-uk-holiday-spec =
