@@ -20,15 +20,15 @@ checkedDay market year month day =
     (cond (not (isSupported year)) (DayResult.Err (DateOutOfRange (date year month day)))
     (DayResult.Ok (dayNumber year month day))))
 
--- `Result::map`: the question is asked of the day, and an error stays
+-- `Result::map`: f of the day; an error stays as it is
 abbrev pub mapResult : (ℕ → Bool) → DayResult → BoolResult
 mapResult f (DayResult.Ok n) = BoolResult.Ok (f n)
 mapResult f (DayResult.Err e) = BoolResult.Err e
 
 -- is_trading_day
-abbrev pub tradingDayAnswer : ℕ → ℕ → ℕ → ℕ → BoolResult
-tradingDayAnswer market year month day = mapResult (isTradingDay market) (checkedDay market year month day)
+abbrev pub tradingDayResult : ℕ → ℕ → ℕ → ℕ → BoolResult
+tradingDayResult market year month day = mapResult (isTradingDay market) (checkedDay market year month day)
 
 -- is_holiday
-abbrev pub holidayAnswer : ℕ → ℕ → ℕ → ℕ → BoolResult
-holidayAnswer market year month day = mapResult (isHoliday market) (checkedDay market year month day)
+abbrev pub holidayResult : ℕ → ℕ → ℕ → ℕ → BoolResult
+holidayResult market year month day = mapResult (isHoliday market) (checkedDay market year month day)

@@ -2,20 +2,14 @@
 ghost use mathlib.Core.Path.{_≡_};
 ghost use Rattle.calendar.specs.Errors.{errorNumber, errorDate};
 use gregorian::Date;
+use gregorian::NO_DATE;
 
-// A market and a date are given as numbers, so there are errors for numbers that are none (added).
+// A market and a date are given as numbers, so there are errors for numbers that are no market or no date (added).
 pub enum CalendarError {
     UnknownMarket,
     InvalidDate,
     DateOutOfRange(Date),
 }
-
-// The date where none is returned: [host-answers], [reading-nothing].
-pub const NO_DATE: Date = Date {
-    year: 0,
-    month: 0,
-    day: 0,
-};
 
 // [errors]
 pub fn number(e: CalendarError) -> u32
@@ -28,7 +22,7 @@ pub fn number(e: CalendarError) -> u32
     }
 }
 
-// [errors]: the date returned with the error.
+// [errors]: the date returned with the error; none where nothing is returned [reading-nothing].
 pub fn date(e: CalendarError) -> Date
     ensures { λ r. ⌜ r ≡ errorDate e ⌝ }
 {

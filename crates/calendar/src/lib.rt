@@ -3,7 +3,7 @@
 pub mod error;
 
 ghost use mathlib.Core.Path.{_≡_};
-ghost use Rattle.calendar.specs.Calls.{isSupported, checkedDay, tradingDayAnswer, holidayAnswer};
+ghost use Rattle.calendar.specs.Calls.{isSupported, checkedDay, tradingDayResult, holidayResult};
 use crate::error::CalendarError;
 use gregorian::Date;
 
@@ -30,7 +30,7 @@ fn is_supported(year: u32) -> bool
     MIN_YEAR <= year && year <= MAX_YEAR
 }
 
-// [errors]: 8, 5 and 1, in this order.
+// [errors]: the first of 8, 5 and 1 that applies, or the day number.
 fn checked_day(market: u32, year: u32, month: u32, day: u32) -> DayResult
     ensures { λ r. ⌜ r ≡ checkedDay market year month day ⌝ }
 {
@@ -49,7 +49,7 @@ fn checked_day(market: u32, year: u32, month: u32, day: u32) -> DayResult
 
 // [trading-day]
 pub fn is_trading_day(market: u32, year: u32, month: u32, day: u32) -> BoolResult
-    ensures { λ r. ⌜ r ≡ tradingDayAnswer market year month day ⌝ }
+    ensures { λ r. ⌜ r ≡ tradingDayResult market year month day ⌝ }
 {
     match checked_day(market, year, month, day) {
         DayResult::Ok(n) => BoolResult::Ok(markets::is_trading_day(market, n)),
@@ -59,7 +59,7 @@ pub fn is_trading_day(market: u32, year: u32, month: u32, day: u32) -> BoolResul
 
 // [is-holiday]
 pub fn is_holiday(market: u32, year: u32, month: u32, day: u32) -> BoolResult
-    ensures { λ r. ⌜ r ≡ holidayAnswer market year month day ⌝ }
+    ensures { λ r. ⌜ r ≡ holidayResult market year month day ⌝ }
 {
     match checked_day(market, year, month, day) {
         DayResult::Ok(n) => BoolResult::Ok(markets::is_holiday(market, n)),

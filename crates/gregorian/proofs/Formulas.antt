@@ -43,7 +43,7 @@ other-month y m h = upto (λ (m : ℕ). (m ≡ 2 → ⊥) → getD lengths m 0 �
 
 pub no-month : (y m : ℕ) → 13 ≤ m → monthLength y m ≡ 0
 unfolding monthLength
-no-month y m h = List·getD-eq-default (monthLengths y) 0 h
+no-month y m h = List·getD-eq-default (monthLengths (leapDay y)) 0 h
 
 abbrev pub starts : List ℕ
 starts = 0 ∷ 31 ∷ 59 ∷ 90 ∷ 120 ∷ 151 ∷ 181 ∷ 212 ∷ 243 ∷ 273 ∷ 304 ∷ 334 ∷ 365 ∷ []

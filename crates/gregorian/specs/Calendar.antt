@@ -19,13 +19,13 @@ leapDay y = cond (leap y) 1 0
 unfoldable pub yearLength : ℕ → ℕ
 yearLength y = 365 + leapDay y
 
--- The lengths of the months of year y; January is number 1, and there is no month 0.
+-- The lengths of the months in a year with so many leap days; January is number 1, and there is no month 0.
 abbrev pub monthLengths : ℕ → List ℕ
-monthLengths y = 0 ∷ 31 ∷ (28 + leapDay y) ∷ 31 ∷ 30 ∷ 31 ∷ 30 ∷ 31 ∷ 31 ∷ 30 ∷ 31 ∷ 30 ∷ 31 ∷ []
+monthLengths leapDays = 0 ∷ 31 ∷ (28 + leapDays) ∷ 31 ∷ 30 ∷ 31 ∷ 30 ∷ 31 ∷ 31 ∷ 30 ∷ 31 ∷ 30 ∷ 31 ∷ []
 
 -- The length of month m of year y; 0 where there is no such month.
 unfoldable pub monthLength : ℕ → ℕ → ℕ
-monthLength y m = getD (monthLengths y) m 0
+monthLength y m = getD (monthLengths (leapDay y)) m 0
 
 -- f 1 + f 2 + .. + f n
 unfoldable pub total : (ℕ → ℕ) → ℕ → ℕ
@@ -61,6 +61,10 @@ isDate y m d = leb 1 y && leb y lastYear && leb 1 m && leb m 12 && leb 1 d && le
 
 abbrev pub date : ℕ → ℕ → ℕ → Date
 date y m d = record { year = y; month = m; day = d }
+
+-- no date, where an answer has none
+abbrev pub noDate : Date
+noDate = date 0 0 0
 
 -- The day after: the next day of the month, or else the first of the next month, or else the first of the next year.
 unfoldable pub dayAfter : Date → Date

@@ -35,6 +35,13 @@ pub struct Date {
     pub day: u32,
 }
 
+// No date, where an answer has none.
+pub const NO_DATE: Date = Date {
+    year: 0,
+    month: 0,
+    day: 0,
+};
+
 pub fn is_leap(year: u32) -> bool
     ensures { λ r. ⌜ r ≡ leap year ⌝ }
 {

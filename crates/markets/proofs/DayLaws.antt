@@ -8,13 +8,14 @@ use lib.Dec.{leb, eqb}
 use lib.ListN.{getD}
 use native.Mathlib.Omega.{arith}
 use borrow.Author.Tests.{leb-true, ne-eqb}
-use Rattle.gregorian.specs.Calendar.{saturday, sunday, weekdayOf, monthLength, dayNumber, lastYear, isDate}
+use Rattle.gregorian.specs.Calendar.{saturday, sunday, weekdayOf, monthLengths, monthLength, dayNumber, lastYear, isDate}
 use Rattle.gregorian.proofs.Tests.{and-left, and-right}
 use Rattle.gregorian.proofs.Total.{upto}
 use Rattle.gregorian.proofs.Laws.{date-by}
 use Rattle.utils.specs.declared.OptionalDay.{OptionalDay}
 use Rattle.utils.specs.declared.OptionalDay.the-variants.{Day, None}
-use Rattle.markets.specs.Days.{contains, insert, insertIf, insertDay, isDay, matchWeekend, shortLengths, everyYearHas}
+use Rattle.markets.specs.Days.{contains, insert, insertIf, insertDay, isDay, matchWeekend}
+use Rattle.markets.specs.Requires.{everyYearHas}
 
 pub or-assoc : (a b c : Bool) → (a || (b || c)) ≡ (a || b || c)
 or-assoc true b c = refl
@@ -73,9 +74,9 @@ unfolding dayNumber
 day-low y m d = omega arith
 
 -- A day that every year has is a date in each of years 1 to 9999.
-short-length : (y m : ℕ) → m ≤ 12 → getD shortLengths m 0 ≤ monthLength y m
+short-length : (y m : ℕ) → m ≤ 12 → getD (monthLengths 0) m 0 ≤ monthLength y m
 unfolding monthLength
-short-length y m h = upto (λ m. getD shortLengths m 0 ≤ monthLength y m) 13 (omega arith) m (omega arith)
+short-length y m h = upto (λ m. getD (monthLengths 0) m 0 ≤ monthLength y m) 13 (omega arith) m (omega arith)
 
 pub every-year-date : (y m d : ℕ) → (1 ≤ y) × (y ≤ lastYear) × (everyYearHas m d ≡ true) → isDate y m d ≡ true
 every-year-date y m d h =

@@ -18,8 +18,9 @@ use Rattle.utils.specs.declared.OptionalDay.{OptionalDay}
 use Rattle.utils.specs.declared.OptionalDay.the-variants.{Day, None}
 use Rattle.utils.specs.Weekday.{nthWeekdayOfMonth}
 use Rattle.utils.proofs.WeekdayLaws.{when-day, first-near, nth-weekday}
-use Rattle.markets.specs.Days.{contains, insert, insertIf, insertDay, isDay, everyYearHas}
-use Rattle.markets.specs.Japan.{substituteDay, addWithSubstitute, addDayWithSubstitute, vernalDays, autumnalDays, equinox, everyMonthHas, applyGoldenWeekRules, getJapanHolidays, withSubstitute, dayWithSubstitute, isBridgeDay, isHolidayToMarch, isGoldenWeekHoliday, isHolidayFromJuly, shortAccount}
+use Rattle.markets.specs.Days.{contains, insert, insertIf, insertDay, isDay}
+use Rattle.markets.specs.Requires.{everyYearHas, everyMonthHas}
+use Rattle.markets.specs.Japan.{substituteDay, addWithSubstitute, addDayWithSubstitute, vernalDays, autumnalDays, equinox, applyGoldenWeekRules, getJapanHolidays, isWithSubstitute, isDayWithSubstitute, isBridgeDay, isHolidayToMarch, isGoldenWeekHoliday, isHolidayFromJuly, isJapanHoliday}
 use Rattle.markets.proofs.DayLaws.{or-assoc, or-false, contains-none, contains-insert, contains-if, every-year-date}
 
 -- The equinoxes.
@@ -48,7 +49,7 @@ in-month : (y m d e : ℕ) → d ≤ e → dayNumber y m d ≤ dayNumber y m e
 unfolding dayNumber
 in-month y m d e h = omega arith
 
-equinox-near : (days : List ℕ) (low high m y t : ℕ) → ((i : ℕ) → i < 11 → (low ≤ getD days i 0) × (getD days i 0 ≤ high)) → equinox days m y ≡ Day t → (dayNumber y m low ≤ t) × (t ≤ dayNumber y m high)
+equinox-near : (days : List ℕ) (low high m y t : ℕ) → ((i : ℕ) → i < 11 → (low ≤ getD days i 0) × (getD days i 0 ≤ high)) → equinox days y m ≡ Day t → (dayNumber y m low ≤ t) × (t ≤ dayNumber y m high)
 unfolding equinox
 equinox-near days low high m y t k e =
     let c = when-day (leb 2020 y && leb y 2030) (Day (dayNumber y m (getD days (y - 2020) 0))) t e in
@@ -134,21 +135,21 @@ add-by {ds} {test} {a} s d h false =
     let i = put s d (d + 1) (omega arith) (omega arith) in
     record { same = λ n. i .same n ∙ ap (λ (t : Bool). test n || t) (sym (or-false (eqb n d))); high = i .high }
 
-add : {ds : List ℕ} {test : ℕ → Bool} {a : ℕ} → Account ds test a → (d : ℕ) → a ≤ d → Account (addWithSubstitute ds d) (λ n. test n || withSubstitute d n) (d + 1)
+add : {ds : List ℕ} {test : ℕ → Bool} {a : ℕ} → Account ds test a → (d : ℕ) → a ≤ d → Account (addWithSubstitute ds d) (λ n. test n || isWithSubstitute d n) (d + 1)
 unfolding addWithSubstitute
 add s d h = add-by s d h (eqb (weekdayOf d) sunday)
 
-add-day : {ds : List ℕ} {test : ℕ → Bool} {a : ℕ} → Account ds test a → (r : OptionalDay) (b : ℕ) → a ≤ b → ((t : ℕ) → r ≡ Day t → (a ≤ t) × (t + 1 ≤ b)) → Account (addDayWithSubstitute ds r) (λ n. test n || dayWithSubstitute r n) b
+add-day : {ds : List ℕ} {test : ℕ → Bool} {a : ℕ} → Account ds test a → (r : OptionalDay) (b : ℕ) → a ≤ b → ((t : ℕ) → r ≡ Day t → (a ≤ t) × (t + 1 ≤ b)) → Account (addDayWithSubstitute ds r) (λ n. test n || isDayWithSubstitute r n) b
 unfolding addDayWithSubstitute
 add-day s (Day t) b h k = let g = k t refl in later (add s t (g .0)) b (g .1)
 add-day {ds} {test} {a} s None b h k =
     record { same = λ n. s .same n ∙ sym (or-false (test n)); high = up-to-more ds a b h (s .high) }
 
 -- Golden Week: the rule for a Friday 3 May and a Sunday 5 May adds what the substitute of 5 May has added.
-without : (p a b c d e : Bool) → (d ≡ true → p ≡ true) → (p || a || b || c || d || e) ≡ (p || (a || b || c || e))
+without : (p a b c d e : Bool) → (d ≡ true → p ≡ true) → (p || a || b || c || d || e) ≡ (p || a || (b || c || e))
 without true a b c d e h = refl
 without false a b c true e h = cc (h refl)
-without false a b c false e h = ap (λ (t : Bool). t || e) (or-false (a || b || c))
+without false a b c false e h = ap (λ (t : Bool). t || e) (or-false (a || b || c)) ∙ sym (or-assoc a (b || c) e ∙ ap (λ (t : Bool). t || e) (or-assoc a b c))
 
 or-true : (a : Bool) → (a || true) ≡ true
 or-true true = refl
@@ -158,20 +159,20 @@ next-may : (y : ℕ) → dayNumber y 5 6 ≡ dayNumber y 5 5 + 1
 unfolding dayNumber
 next-may y = omega arith
 
-substituted : (y n : ℕ) (q f : Bool) → (f && eqb (weekdayOf (dayNumber y 5 5)) sunday && eqb n (dayNumber y 5 6)) ≡ true → (q || withSubstitute (dayNumber y 5 5) n) ≡ true
+substituted : (y n : ℕ) (q f : Bool) → (f && eqb (weekdayOf (dayNumber y 5 5)) sunday && eqb n (dayNumber y 5 6)) ≡ true → (q || isWithSubstitute (dayNumber y 5 5) n) ≡ true
 substituted y n q f e =
     let t = eqb (weekdayOf (dayNumber y 5 5)) sunday in
     let w = and-right f t (and-left (f && t) _ e) in
     let k : eqb n (dayNumber y 5 5 + 1) ≡ true = ap (λ (d : ℕ). eqb n d) (sym (next-may y)) ∙ and-right (f && t) _ e in
     simp (w, k, or-true)
 
-golden : {ds : List ℕ} {test : ℕ → Bool} {a : ℕ} (y : ℕ) → Account ds test a → a ≤ dayNumber y 5 5 → Account (applyGoldenWeekRules y (addWithSubstitute ds (dayNumber y 5 5))) (λ n. test n || withSubstitute (dayNumber y 5 5) n || isBridgeDay y n) (dayNumber y 5 6)
+golden : {ds : List ℕ} {test : ℕ → Bool} {a : ℕ} (y : ℕ) → Account ds test a → a ≤ dayNumber y 5 5 → Account (applyGoldenWeekRules y (addWithSubstitute ds (dayNumber y 5 5))) (λ n. test n || isWithSubstitute (dayNumber y 5 5) n || eqb n (dayNumber y 5 4) || isBridgeDay y n) (dayNumber y 5 6)
 unfolding applyGoldenWeekRules isBridgeDay
 golden {ds} {test} {a} y s h =
     let i = later (add s (dayNumber y 5 5) h) (dayNumber y 5 6) (omega (arith, next-may y)) in
     let b = dayNumber y 5 6 in
     record {
-      same = λ n. simp (contains-if, contains-insert, i .same n) (without (test n || withSubstitute (dayNumber y 5 5) n) _ _ _ _ _ (substituted y n (test n) (eqb (weekdayOf (dayNumber y 5 3)) friday)));
+      same = λ n. simp (contains-if, contains-insert, i .same n) (without (test n || isWithSubstitute (dayNumber y 5 5) n) _ _ _ _ _ (substituted y n (test n) (eqb (weekdayOf (dayNumber y 5 3)) friday)));
       high = up-to-if _ _ _ b (up-to-if _ _ _ b (up-to-if _ _ _ b (up-to-if _ _ _ b (up-to-insert _ _ b (i .high) (in-month y 5 4 6 (lit≤ tt))) (in-month y 5 2 6 (lit≤ tt))) (omega arith)) (omega arith)) (omega arith);
     }
 
@@ -194,9 +195,9 @@ in-order y m d k e h o =
     omega (arith, l)
 
 -- The shorter account is the Rust's set, in years 1 to 9999.
-pub short-account : (y n : ℕ) → (1 ≤ y) × (y ≤ lastYear) → contains (getJapanHolidays y) n ≡ shortAccount y n
+pub japan-contains : (y n : ℕ) → (1 ≤ y) × (y ≤ lastYear) → contains (getJapanHolidays y) n ≡ isJapanHoliday y n
 unfolding getJapanHolidays isHolidayToMarch isGoldenWeekHoliday isHolidayFromJuly
-short-account y n h =
+japan-contains y n h =
     let s = add start (dayNumber y 1 1) (omega arith) in
     let s = add s (dayNumber y 1 2) (in-order y 1 1 1 2 h refl) in
     let s = add s (dayNumber y 1 3) (in-order y 1 2 1 3 h refl) in

@@ -11,7 +11,7 @@ use Rattle.gregorian.proofs.Laws.{is-date, date-of-is}
 use Rattle.gregorian.proofs.Total.{upto}
 use Rattle.markets.specs.Days.{contains}
 use Rattle.markets.specs.Us.{getUsHolidays}
-use Rattle.markets.specs.Markets.{implementations, holidays, isHoliday}
+use Rattle.markets.specs.Markets.{holidaysByCode, holidays, isHoliday}
 use Rattle.markets.proofs.DayLaws.{contains-none}
 
 -- the year of a day number
@@ -28,7 +28,7 @@ us-market m h = upto (λ m. holidays m ≡ getUsHolidays) 2 ((tt, refl), refl) m
 pub no-market : (m n : ℕ) → 5 ≤ m → false ≡ isHoliday m n
 unfolding isHoliday holidays
 no-market m n h =
-    sym (ap (λ (f : ℕ → List ℕ). contains (f (dateOf n .year)) n) (List·getD-eq-default implementations (λ year. []) {n = m} (omega arith)) ∙ contains-none n)
+    sym (ap (λ (f : ℕ → List ℕ). contains (f (dateOf n .year)) n) (List·getD-eq-default holidaysByCode (λ year. []) {n = m} (omega arith)) ∙ contains-none n)
 
 -- an answer for the year y, which is that of n, and the code k, which is that of the market
 pub by-code : (m k n y : ℕ) (r : Bool) → r ≡ contains (holidays k y) n → y ≡ dateOf n .year → m ≡ k → r ≡ isHoliday m n

@@ -14,7 +14,7 @@ use Rattle.markets.specs.Days.{insert, insertDay, adjustForWeekend}
 abbrev pub familyDay : ℕ → OptionalDay
 familyDay year = cond (leb 2008 year) (nthWeekdayOfMonth year 2 monday 3) None
 
--- victoria_day: from 24 May back to a Monday
+-- victoria_day: from 24 May, which every year has, back to a Monday
 abbrev pub victoriaDay : ℕ → ℕ
 victoriaDay year = lastUpTo monday (dayNumber year 5 24)
 
@@ -23,21 +23,21 @@ unfoldable pub boxingDay : ℕ → ℕ
 boxingDay year =
     let christmas = dayNumber year 12 25 in
     let boxing = dayNumber year 12 26 in
-    cond (eqb (weekdayOf christmas) friday && eqb (weekdayOf boxing) saturday) (boxing + 2)
-    (cond (eqb (weekdayOf christmas) saturday && eqb (weekdayOf boxing) sunday) (boxing + 2)
-    (cond (eqb (weekdayOf boxing) saturday) (boxing + 2)
-    (cond (eqb (weekdayOf boxing) sunday) (boxing + 1) boxing)))
+    cond (eqb (weekdayOf christmas) friday && eqb (weekdayOf boxing) saturday) (boxing + 2)  -- (Fri, Sat)
+    (cond (eqb (weekdayOf christmas) saturday && eqb (weekdayOf boxing) sunday) (boxing + 2)  -- (Sat, Sun)
+    (cond (eqb (weekdayOf boxing) saturday) (boxing + 2)  -- (_, Sat)
+    (cond (eqb (weekdayOf boxing) sunday) (boxing + 1) boxing)))  -- (_, Sun), and the rest
 
 -- New Year's Day, Canada Day and Christmas Day, on Monday if on a weekend; Family Day (from 2008); Good Friday; Victoria Day;
 -- Labour Day; Thanksgiving; Boxing Day, two days later if on a weekend. No Civic Holiday.
 unfoldable pub getCanadaHolidays : ℕ → List ℕ
 getCanadaHolidays year =
-    let holidays = insert [] (adjustForWeekend (dayNumber year 1 1)) in
+    let holidays = insert [] (adjustForWeekend (dayNumber year 1 1)) in  -- New Year's Day
     let holidays = insertDay holidays (familyDay year) in
     let holidays = insertDay holidays (calculateGoodFriday year) in
     let holidays = insert holidays (victoriaDay year) in
-    let holidays = insert holidays (adjustForWeekend (dayNumber year 7 1)) in
-    let holidays = insertDay holidays (nthWeekdayOfMonth year 9 monday 1) in
-    let holidays = insertDay holidays (nthWeekdayOfMonth year 10 monday 2) in
-    let holidays = insert holidays (adjustForWeekend (dayNumber year 12 25)) in
+    let holidays = insert holidays (adjustForWeekend (dayNumber year 7 1)) in  -- Canada Day
+    let holidays = insertDay holidays (nthWeekdayOfMonth year 9 monday 1) in  -- Labour Day
+    let holidays = insertDay holidays (nthWeekdayOfMonth year 10 monday 2) in  -- Thanksgiving
+    let holidays = insert holidays (adjustForWeekend (dayNumber year 12 25)) in  -- Christmas Day
     insert holidays (boxingDay year)

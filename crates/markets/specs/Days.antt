@@ -1,10 +1,9 @@
 -- Lists of days in the place of the Rust's HashSet<NaiveDate>, and the move that most markets share: docs/SCOPE.md
 -- [weekend-moves]. A day is its day number. Assumes nothing.
 use Prim.Native.Nat.{ℕ, _+_}
-use mathlib.Core.Bool.{Bool, false, cond, _&&_, _||_}
+use mathlib.Core.Bool.{Bool, false, cond, _||_}
 use mathlib.Core.List.{List, [], _∷_, _++_}
-use lib.Dec.{leb, eqb}
-use lib.ListN.{getD}
+use lib.Dec.{eqb}
 use Rattle.gregorian.specs.Calendar.{saturday, sunday, weekdayOf}
 use Rattle.utils.specs.declared.OptionalDay.{OptionalDay}
 use Rattle.utils.specs.declared.OptionalDay.the-variants.{Day, None}
@@ -22,7 +21,7 @@ insert holidays n = holidays ++ n ∷ []
 unfoldable pub insertIf : List ℕ → Bool → ℕ → List ℕ
 insertIf holidays test n = cond test (insert holidays n) holidays
 
--- `if let Some(n) = day { holidays.insert(n) }`
+-- `if let Some(n) = day { holidays.insert(n) }`, and `if let Ok(n)` for Good Friday and Easter Monday
 unfoldable pub insertDay : List ℕ → OptionalDay → List ℕ
 insertDay holidays (Day n) = insert holidays n
 insertDay holidays None = holidays
@@ -36,14 +35,7 @@ isDay None n = false
 unfoldable pub matchWeekend : ℕ → ℕ → ℕ → ℕ
 matchWeekend n s t = cond (eqb (weekdayOf n) saturday) s (cond (eqb (weekdayOf n) sunday) t n)
 
--- Saturday +2, Sunday +1: adjust_for_weekend, adjust_for_weekend_uk, and the `match` of the US rules.
+-- Saturday +2, Sunday +1: adjust_for_weekend, adjust_for_weekend_uk, and the `match` of new_years_day, juneteenth and
+-- christmas_day.
 abbrev pub adjustForWeekend : ℕ → ℕ
 adjustForWeekend n = matchWeekend n (n + 2) (n + 1)
-
--- The lengths of the months in a year that is not leap; there is no month 0.
-abbrev pub shortLengths : List ℕ
-shortLengths = 0 ∷ 31 ∷ 28 ∷ 31 ∷ 30 ∷ 31 ∷ 30 ∷ 31 ∷ 31 ∷ 30 ∷ 31 ∷ 30 ∷ 31 ∷ []
-
--- a month and a day that every year has
-abbrev pub everyYearHas : ℕ → ℕ → Bool
-everyYearHas month day = leb 1 month && leb month 12 && leb 1 day && leb day (getD shortLengths month 0)

@@ -11,7 +11,7 @@ use Rattle.utils.specs.Weekday.{nthWeekdayOfMonth}
 use Rattle.markets.specs.Days.{contains, insert, insertIf, insertDay, isDay}
 
 -- The loop of add_with_substitute: `while holidays.contains(&substitute) && attempts < 7 { substitute += 1; attempts += 1 }`.
--- `left` is 7 - attempts; None where no attempt is left.
+-- `left` is 7 - attempts; None where no attempt is left, since only `if attempts < 7 { holidays.insert(substitute) }` follows.
 unfoldable pub substituteDay : List ℕ → ℕ → ℕ → OptionalDay
 substituteDay holidays zero substitute = None
 substituteDay holidays (suc left) substitute =
@@ -37,14 +37,14 @@ abbrev pub autumnalDays : List ℕ
 autumnalDays = 22 ∷ 23 ∷ 23 ∷ 23 ∷ 22 ∷ 23 ∷ 23 ∷ 23 ∷ 22 ∷ 23 ∷ 23 ∷ []
 
 unfoldable pub equinox : List ℕ → ℕ → ℕ → OptionalDay
-equinox days month year =
+equinox days year month =
     cond (leb 2020 year && leb year 2030) (Day (dayNumber year month (getD days (year - 2020) 0))) None
 
 abbrev pub calculateVernalEquinox : ℕ → OptionalDay
-calculateVernalEquinox year = equinox vernalDays 3 year
+calculateVernalEquinox year = equinox vernalDays year 3
 
 abbrev pub calculateAutumnalEquinox : ℕ → OptionalDay
-calculateAutumnalEquinox year = equinox autumnalDays 9 year
+calculateAutumnalEquinox year = equinox autumnalDays year 9
 
 -- apply_golden_week_rules
 unfoldable pub applyGoldenWeekRules : ℕ → List ℕ → List ℕ
@@ -64,77 +64,72 @@ applyGoldenWeekRules year holidays =
 -- 31 December.
 unfoldable pub getJapanHolidays : ℕ → List ℕ
 getJapanHolidays year =
-    let holidays = addWithSubstitute [] (dayNumber year 1 1) in
+    let holidays = addWithSubstitute [] (dayNumber year 1 1) in  -- New Year holidays, 1 to 3 January
     let holidays = addWithSubstitute holidays (dayNumber year 1 2) in
     let holidays = addWithSubstitute holidays (dayNumber year 1 3) in
-    let holidays = insertDay holidays (nthWeekdayOfMonth year 1 monday 2) in
-    let holidays = addWithSubstitute holidays (dayNumber year 2 11) in
-    let holidays = addWithSubstitute holidays (dayNumber year 2 23) in
+    let holidays = insertDay holidays (nthWeekdayOfMonth year 1 monday 2) in  -- Coming of Age Day
+    let holidays = addWithSubstitute holidays (dayNumber year 2 11) in  -- National Foundation Day
+    let holidays = addWithSubstitute holidays (dayNumber year 2 23) in  -- Emperor's Birthday
     let holidays = addDayWithSubstitute holidays (calculateVernalEquinox year) in
-    let holidays = addWithSubstitute holidays (dayNumber year 4 29) in
-    let holidays = addWithSubstitute holidays (dayNumber year 5 3) in
+    let holidays = addWithSubstitute holidays (dayNumber year 4 29) in  -- Showa Day
+    let holidays = addWithSubstitute holidays (dayNumber year 5 3) in  -- Golden Week
     let holidays = addWithSubstitute holidays (dayNumber year 5 5) in
     let holidays = applyGoldenWeekRules year holidays in
-    let holidays = insertDay holidays (nthWeekdayOfMonth year 7 monday 3) in
-    let holidays = addWithSubstitute holidays (dayNumber year 8 11) in
-    let holidays = insertDay holidays (nthWeekdayOfMonth year 9 monday 3) in
+    let holidays = insertDay holidays (nthWeekdayOfMonth year 7 monday 3) in  -- Marine Day
+    let holidays = addWithSubstitute holidays (dayNumber year 8 11) in  -- Mountain Day
+    let holidays = insertDay holidays (nthWeekdayOfMonth year 9 monday 3) in  -- Respect for Aged Day
     let holidays = addDayWithSubstitute holidays (calculateAutumnalEquinox year) in
-    let holidays = insertDay holidays (nthWeekdayOfMonth year 10 monday 2) in
-    let holidays = addWithSubstitute holidays (dayNumber year 11 3) in
-    let holidays = addWithSubstitute holidays (dayNumber year 11 23) in
-    insert holidays (dayNumber year 12 31)
-
--- the first k days of a table are days that every month has
-abbrev pub everyMonthHas : List ℕ → ℕ → Bool
-everyMonthHas days zero = true
-everyMonthHas days (suc k) = leb 1 (getD days k 0) && leb (getD days k 0) 28 && everyMonthHas days k
+    let holidays = insertDay holidays (nthWeekdayOfMonth year 10 monday 2) in  -- Health and Sports Day
+    let holidays = addWithSubstitute holidays (dayNumber year 11 3) in  -- Culture Day
+    let holidays = addWithSubstitute holidays (dayNumber year 11 23) in  -- Labour Thanksgiving Day
+    insert holidays (dayNumber year 12 31)  -- Market closes
 
 -- The shorter account, docs/SCOPE.md [tse-substitute]: n is the date or, if that is a Sunday, the day after it.
-abbrev pub withSubstitute : ℕ → ℕ → Bool
-withSubstitute date n = eqb n date || eqb (weekdayOf date) sunday && eqb n (date + 1)
+abbrev pub isWithSubstitute : ℕ → ℕ → Bool
+isWithSubstitute date n = eqb n date || eqb (weekdayOf date) sunday && eqb n (date + 1)
 
-abbrev pub dayWithSubstitute : OptionalDay → ℕ → Bool
-dayWithSubstitute (Day date) n = withSubstitute date n
-dayWithSubstitute None n = false
+abbrev pub isDayWithSubstitute : OptionalDay → ℕ → Bool
+isDayWithSubstitute (Day date) n = isWithSubstitute date n
+isDayWithSubstitute None n = false
 
--- [tse-golden-week] and 4 May
+-- [tse-golden-week]
 unfoldable pub isBridgeDay : ℕ → ℕ → Bool
 isBridgeDay year n =
-    eqb n (dayNumber year 5 4)
-    || eqb (weekdayOf (dayNumber year 5 3)) tuesday && eqb n (dayNumber year 5 2)
+    eqb (weekdayOf (dayNumber year 5 3)) tuesday && eqb n (dayNumber year 5 2)
     || eqb (weekdayOf (dayNumber year 5 5)) thursday && eqb n (dayNumber year 5 6)
     || eqb (weekdayOf (dayNumber year 5 4)) sunday && eqb n (dayNumber year 5 6)
 
 -- [tse-holidays] in the Rust's order, in three parts
 unfoldable pub isHolidayToMarch : ℕ → ℕ → Bool
 isHolidayToMarch year n =
-    withSubstitute (dayNumber year 1 1) n
-    || withSubstitute (dayNumber year 1 2) n
-    || withSubstitute (dayNumber year 1 3) n
+    isWithSubstitute (dayNumber year 1 1) n
+    || isWithSubstitute (dayNumber year 1 2) n
+    || isWithSubstitute (dayNumber year 1 3) n
     || isDay (nthWeekdayOfMonth year 1 monday 2) n
-    || withSubstitute (dayNumber year 2 11) n
-    || withSubstitute (dayNumber year 2 23) n
-    || dayWithSubstitute (calculateVernalEquinox year) n
+    || isWithSubstitute (dayNumber year 2 11) n
+    || isWithSubstitute (dayNumber year 2 23) n
+    || isDayWithSubstitute (calculateVernalEquinox year) n
 
 unfoldable pub isGoldenWeekHoliday : ℕ → ℕ → Bool
 isGoldenWeekHoliday year n =
-    withSubstitute (dayNumber year 4 29) n
-    || withSubstitute (dayNumber year 5 3) n
-    || withSubstitute (dayNumber year 5 5) n
+    isWithSubstitute (dayNumber year 4 29) n
+    || isWithSubstitute (dayNumber year 5 3) n
+    || isWithSubstitute (dayNumber year 5 5) n
+    || eqb n (dayNumber year 5 4)
     || isBridgeDay year n
 
 unfoldable pub isHolidayFromJuly : ℕ → ℕ → Bool
 isHolidayFromJuly year n =
     isDay (nthWeekdayOfMonth year 7 monday 3) n
-    || withSubstitute (dayNumber year 8 11) n
+    || isWithSubstitute (dayNumber year 8 11) n
     || isDay (nthWeekdayOfMonth year 9 monday 3) n
-    || dayWithSubstitute (calculateAutumnalEquinox year) n
+    || isDayWithSubstitute (calculateAutumnalEquinox year) n
     || isDay (nthWeekdayOfMonth year 10 monday 2) n
-    || withSubstitute (dayNumber year 11 3) n
-    || withSubstitute (dayNumber year 11 23) n
+    || isWithSubstitute (dayNumber year 11 3) n
+    || isWithSubstitute (dayNumber year 11 23) n
     || eqb n (dayNumber year 12 31)
 
 -- Whether n is a holiday of the year by the shorter account. It is `contains (getJapanHolidays year) n` in years 1 to 9999:
--- proofs/JapanLaws.antt, `short-account`.
-abbrev pub shortAccount : ℕ → ℕ → Bool
-shortAccount year n = isHolidayToMarch year n || isGoldenWeekHoliday year n || isHolidayFromJuly year n
+-- proofs/JapanLaws.antt, `japan-contains`. No exported contract rests on it.
+abbrev pub isJapanHoliday : ℕ → ℕ → Bool
+isJapanHoliday year n = isHolidayToMarch year n || isGoldenWeekHoliday year n || isHolidayFromJuly year n

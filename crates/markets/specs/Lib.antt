@@ -4,3 +4,4 @@ pub mod Uk
 pub mod Canada
 pub mod Japan
 pub mod Markets
+pub mod Requires

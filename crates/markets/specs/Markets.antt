@@ -11,13 +11,13 @@ use Rattle.markets.specs.Uk.{getUkHolidays}
 use Rattle.markets.specs.Canada.{getCanadaHolidays}
 use Rattle.markets.specs.Japan.{getJapanHolidays}
 
--- the holidays of each market in a year, in the order of the codes: NYSE, NASDAQ, LSE, TSE, TSX
-abbrev pub implementations : List (ℕ → List ℕ)
-implementations = getUsHolidays ∷ getUsHolidays ∷ getUkHolidays ∷ getJapanHolidays ∷ getCanadaHolidays ∷ []
+-- create_implementation: the holidays of each market, in the order of the codes, NYSE, NASDAQ, LSE, TSE, TSX
+abbrev pub holidaysByCode : List (ℕ → List ℕ)
+holidaysByCode = getUsHolidays ∷ getUsHolidays ∷ getUkHolidays ∷ getJapanHolidays ∷ getCanadaHolidays ∷ []
 
--- The holidays of a market in a year; none of a code above 4.
+-- The holidays of a market in a year; a code above 4 has none.
 unfoldable pub holidays : ℕ → ℕ → List ℕ
-holidays market = getD implementations market (λ year. [])
+holidays market = getD holidaysByCode market (λ year. [])
 
 -- is_weekend
 unfoldable pub isWeekend : ℕ → Bool

@@ -8,7 +8,7 @@ use Rattle.utils.specs.Weekday.{nthWeekdayOfMonth, lastWeekdayOfMonth}
 use Rattle.utils.specs.Easter.{calculateGoodFriday, calculateEasterMonday}
 use Rattle.markets.specs.Days.{insert, insertDay, adjustForWeekend}
 
--- add_boxing_day
+-- add_boxing_day: the `match` on the weekday of Christmas Day
 unfoldable pub addBoxingDay : List ℕ → ℕ → List ℕ
 addBoxingDay holidays year =
     let christmas = dayNumber year 12 25 in
@@ -18,7 +18,22 @@ addBoxingDay holidays year =
     (cond (eqb (weekdayOf christmas) sunday) (insert (insert holidays boxing) (dayNumber year 12 27))
     (insert (insert holidays christmas) (adjustForWeekend boxing))))
 
--- The shorter account of Christmas Day and add_boxing_day, [lse-holidays]: n is one of the two days of December.
+-- New Year's Day, on Monday if on a weekend; Good Friday; Easter Monday; Early May Bank Holiday; Spring Bank Holiday; Summer
+-- Bank Holiday; Christmas Day and Boxing Day: 25 and 28 December if the 25th is a Friday, 27 and 28 if a Saturday, 26 and 27
+-- if a Sunday, else 25 and 26.
+unfoldable pub getUkHolidays : ℕ → List ℕ
+getUkHolidays year =
+    let holidays = insert [] (adjustForWeekend (dayNumber year 1 1)) in  -- New Year's Day
+    let holidays = insertDay holidays (calculateGoodFriday year) in
+    let holidays = insertDay holidays (calculateEasterMonday year) in
+    let holidays = insertDay holidays (nthWeekdayOfMonth year 5 monday 1) in  -- Early May Bank Holiday
+    let holidays = insertDay holidays (lastWeekdayOfMonth year 5 monday) in  -- Spring Bank Holiday
+    let holidays = insertDay holidays (lastWeekdayOfMonth year 8 monday) in  -- Summer Bank Holiday
+    let holidays = insert holidays (adjustForWeekend (dayNumber year 12 25)) in  -- Christmas Day
+    addBoxingDay holidays year
+
+-- The shorter account of Christmas Day and add_boxing_day, [lse-holidays]: n is one of the two days of December. They insert
+-- just these: proofs/UkLaws.antt, `uk-contains`. No exported contract rests on it.
 unfoldable pub isChristmasOrBoxingDay : ℕ → ℕ → Bool
 isChristmasOrBoxingDay year n =
     let christmas = dayNumber year 12 25 in
@@ -26,16 +41,3 @@ isChristmasOrBoxingDay year n =
     (cond (eqb (weekdayOf christmas) saturday) (eqb n (christmas + 2) || eqb n (christmas + 3))
     (cond (eqb (weekdayOf christmas) sunday) (eqb n (christmas + 1) || eqb n (christmas + 2))
     (eqb n christmas || eqb n (christmas + 1))))
-
--- New Year's Day, on Monday if on a weekend; Good Friday; Easter Monday; Early May Bank Holiday; Spring Bank Holiday; Summer
--- Bank Holiday; Christmas Day and Boxing Day, on the next weekdays that are free if on a weekend.
-unfoldable pub getUkHolidays : ℕ → List ℕ
-getUkHolidays year =
-    let holidays = insert [] (adjustForWeekend (dayNumber year 1 1)) in
-    let holidays = insertDay holidays (calculateGoodFriday year) in
-    let holidays = insertDay holidays (calculateEasterMonday year) in
-    let holidays = insertDay holidays (nthWeekdayOfMonth year 5 monday 1) in
-    let holidays = insertDay holidays (lastWeekdayOfMonth year 5 monday) in
-    let holidays = insertDay holidays (lastWeekdayOfMonth year 8 monday) in
-    let holidays = insert holidays (adjustForWeekend (dayNumber year 12 25)) in
-    addBoxingDay holidays year

@@ -9,7 +9,8 @@ ghost use mathlib.Core.Bool.{true};
 ghost use Prim.Native.Nat.{_≤_};
 ghost use Rattle.gregorian.specs.Calendar.{lastYear, lastDay, dayNumber};
 ghost use Rattle.utils.specs.Easter.{calculateGoodFriday};
-ghost use Rattle.markets.specs.Days.{everyYearHas, isDay, adjustForWeekend};
+ghost use Rattle.markets.specs.Days.{isDay, adjustForWeekend};
+ghost use Rattle.markets.specs.Requires.{everyYearHas};
 ghost use Rattle.markets.specs.Markets.{isWeekend, isHoliday, isTradingDay};
 use canada::holidays::is_canada_holiday;
 use gregorian::SATURDAY;
@@ -97,8 +98,5 @@ pub fn is_trading_day(market: u32, n: u32) -> bool
     requires { ⌜ (1 ≤ n) × (n ≤ lastDay) ⌝ }
     ensures { λ r. ⌜ r ≡ isTradingDay market n ⌝ }
 {
-    if is_weekend(n) {
-        return false;
-    }
-    !is_holiday(market, n)
+    !is_weekend(n) && !is_holiday(market, n)
 }

@@ -3,14 +3,15 @@
 ghost use mathlib.Core.Path.{_≡_};
 ghost use Rattle.utils.specs.Weekday.{InYears, nthWeekdayOfMonth, lastWeekdayOfMonth};
 ghost use Rattle.utils.specs.Easter.{calculateEaster, calculateGoodFriday, calculateEasterMonday};
-ghost use Rattle.calendar.specs.Calls.{tradingDayAnswer, holidayAnswer};
+ghost use Rattle.calendar.specs.Calls.{tradingDayResult, holidayResult};
 ghost use Rattle.trading_calendar.specs.Answers.{optionalDate, flagOf, boolAnswer};
 use calendar::BoolResult;
 use calendar::error;
 use gregorian::Date;
+use gregorian::NO_DATE;
 use utils::OptionalDay;
 
-// [host-answers]: found is 1 and date is the answer, or every field is 0.
+// tc_optional_date of the header, [host-answers]: found is 1 and date is the answer, or every field is 0.
 #[repr(C)]
 pub struct OptionalDate {
     pub found: u32,
@@ -28,11 +29,7 @@ fn optional_date(day: OptionalDay) -> OptionalDate
         },
         OptionalDay::None => OptionalDate {
             found: 0,
-            date: Date {
-                year: 0,
-                month: 0,
-                day: 0,
-            },
+            date: NO_DATE,
         },
     }
 }
@@ -82,7 +79,8 @@ pub extern "C" fn tc_calculate_easter_monday(year: u32) -> OptionalDate
     optional_date(utils::easter::calculate_easter_monday(year))
 }
 
-// [host-answers]: error is 0 and value is yes or no; or error is a number of [errors], and date is what is returned with it.
+// tc_bool_result of the header, [host-answers]: error is 0 and value is yes or no; or error is a number of [errors], and date
+// is what is returned with it.
 #[repr(C)]
 pub struct BoolAnswer {
     pub error: u32,
@@ -104,7 +102,7 @@ fn bool_answer(result: BoolResult) -> BoolAnswer
         BoolResult::Ok(yes) => BoolAnswer {
             error: 0,
             value: flag(yes),
-            date: error::NO_DATE,
+            date: NO_DATE,
         },
         BoolResult::Err(e) => BoolAnswer {
             error: error::number(e),
@@ -114,18 +112,18 @@ fn bool_answer(result: BoolResult) -> BoolAnswer
     }
 }
 
-// [trading-day]: yes or no; or error 8, 5 or 1, in this order.
+// [trading-day]: yes or no, or the first of errors 8, 5 and 1 that applies.
 #[no_mangle]
 pub extern "C" fn tc_is_trading_day(market: u32, year: u32, month: u32, day: u32) -> BoolAnswer
-    ensures { λ r. ⌜ r ≡ boolAnswer (tradingDayAnswer market year month day) ⌝ }
+    ensures { λ r. ⌜ r ≡ boolAnswer (tradingDayResult market year month day) ⌝ }
 {
     bool_answer(calendar::is_trading_day(market, year, month, day))
 }
 
-// [is-holiday]: yes or no; or error 8, 5 or 1, in this order.
+// [is-holiday]: yes or no, or the first of errors 8, 5 and 1 that applies.
 #[no_mangle]
 pub extern "C" fn tc_is_holiday(market: u32, year: u32, month: u32, day: u32) -> BoolAnswer
-    ensures { λ r. ⌜ r ≡ boolAnswer (holidayAnswer market year month day) ⌝ }
+    ensures { λ r. ⌜ r ≡ boolAnswer (holidayResult market year month day) ⌝ }
 {
     bool_answer(calendar::is_holiday(market, year, month, day))
 }

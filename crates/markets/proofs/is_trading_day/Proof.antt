@@ -1,6 +1,7 @@
 -- `markets::is_trading_day` meets its contract: a weekend, and another day.
 use mathlib.Core.Path.{_≡_, refl, sym, ap, _∙_}
 use mathlib.Core.Bool.{Bool, true, false, not, _&&_}
+use borrow.Author.Tests.{not-true, not-false}
 use borrow.Author.Needs.{needs}
 use Rattle.markets.specs.Markets.{isHoliday, isTradingDay}
 use Rattle.markets.proofs.is_trading_day.Statement.{statement}
@@ -16,15 +17,17 @@ other false w e = sym (ap not e)
 
 returns : tie.Need-returns
 unfolding isTradingDay
-returns c = weekend (isHoliday (c .before .before .args .market) (c .before .before .args .n)) _ (sym (c .before .is-weekend .ensures) ∙ c .if1 .taken)
+returns c =
+    let s = c .before .before in
+    ap not (c .is-holiday .ensures)
+    ∙ other (isHoliday (s .before .args .market) (s .before .args .n)) _ (sym (s .is-weekend .ensures) ∙ not-true _ (c .before .if1 .taken))
 
 returns-2 : tie.Need-returns-2
 unfolding isTradingDay
 returns-2 c =
-    let s = c .before .before in
-    ap not (c .is-holiday .ensures)
-    ∙ other (isHoliday (s .before .args .market) (s .before .args .n)) _ (sym (s .is-weekend .ensures) ∙ c .before .if1 .left)
+    let s = c .before in
+    c .if1 .left ∙ weekend (isHoliday (s .before .args .market) (s .before .args .n)) _ (sym (s .is-weekend .ensures) ∙ not-false _ (c .if1 .left))
 
 pub is-trading-day-spec : {M : Type 1} → statement M
 is-trading-day-spec =
-    tie.close (tie.spec (search needs) returns (λ c κs. search needs) returns-2)
+    tie.close (tie.spec (search needs) (λ c κs. search needs) returns returns-2)

@@ -5,8 +5,9 @@ ghost use mathlib.Core.Bool.{true};
 ghost use Prim.Native.Nat.{_≤_};
 ghost use Rattle.gregorian.specs.Calendar.{monday, lastYear, lastDay, dayNumber};
 ghost use Rattle.utils.specs.Weekday.{nthWeekdayOfMonth};
-ghost use Rattle.markets.specs.Days.{contains, everyYearHas, isDay};
-ghost use Rattle.markets.specs.Japan.{everyMonthHas, withSubstitute, dayWithSubstitute, equinox, isBridgeDay, isHolidayToMarch, isGoldenWeekHoliday, isHolidayFromJuly, getJapanHolidays};
+ghost use Rattle.markets.specs.Days.{contains, isDay};
+ghost use Rattle.markets.specs.Requires.{everyYearHas, everyMonthHas};
+ghost use Rattle.markets.specs.Japan.{isWithSubstitute, isDayWithSubstitute, equinox, isBridgeDay, isHolidayToMarch, isGoldenWeekHoliday, isHolidayFromJuly, getJapanHolidays};
 use crate::fixed_day;
 use gregorian::MONDAY;
 use gregorian::SUNDAY;
@@ -38,7 +39,7 @@ fn is_holiday_to_march(year: u32, n: u32) -> bool
         | is_coming_of_age_day(year, n)
         | is_fixed_holiday(year, 2, 11, n)
         | is_fixed_holiday(year, 2, 23, n)
-        | is_equinox(VERNAL_DAYS, 3, year, n)
+        | is_equinox(VERNAL_DAYS, year, 3, n)
 }
 
 fn is_golden_week_holiday(year: u32, n: u32) -> bool
@@ -48,6 +49,7 @@ fn is_golden_week_holiday(year: u32, n: u32) -> bool
     is_fixed_holiday(year, 4, 29, n)
         | is_fixed_holiday(year, 5, 3, n)
         | is_fixed_holiday(year, 5, 5, n)
+        | (n == fixed_day(year, 5, 4))
         | is_bridge_day(year, n)
 }
 
@@ -58,7 +60,7 @@ fn is_holiday_from_july(year: u32, n: u32) -> bool
     is_marine_day(year, n)
         | is_fixed_holiday(year, 8, 11, n)
         | is_respect_for_aged_day(year, n)
-        | is_equinox(AUTUMNAL_DAYS, 9, year, n)
+        | is_equinox(AUTUMNAL_DAYS, year, 9, n)
         | is_health_and_sports_day(year, n)
         | is_fixed_holiday(year, 11, 3, n)
         | is_fixed_holiday(year, 11, 23, n)
@@ -68,7 +70,7 @@ fn is_holiday_from_july(year: u32, n: u32) -> bool
 // A day that every year has, or its substitute.
 fn is_fixed_holiday(year: u32, month: u32, day: u32, n: u32) -> bool
     requires { ⌜ (1 ≤ year) × (year ≤ lastYear) × (everyYearHas month day ≡ true) ⌝ }
-    ensures { λ r. ⌜ r ≡ withSubstitute (dayNumber year month day) n ⌝ }
+    ensures { λ r. ⌜ r ≡ isWithSubstitute (dayNumber year month day) n ⌝ }
 {
     is_with_substitute(fixed_day(year, month, day), n)
 }
@@ -76,16 +78,16 @@ fn is_fixed_holiday(year: u32, month: u32, day: u32, n: u32) -> bool
 // [tse-substitute]: the date or, if that is a Sunday, the day after it.
 fn is_with_substitute(date: u32, n: u32) -> bool
     requires { ⌜ date ≤ lastDay ⌝ }
-    ensures { λ r. ⌜ r ≡ withSubstitute date n ⌝ }
+    ensures { λ r. ⌜ r ≡ isWithSubstitute date n ⌝ }
 {
     let substitute = date + 1;
     (n == date) | ((gregorian::weekday(date) == SUNDAY) & (n == substitute))
 }
 
 // The equinox of the year, by its days in 2020 to 2030, or its substitute.
-fn is_equinox(days: [u32; 11], month: u32, year: u32, n: u32) -> bool
+fn is_equinox(days: [u32; 11], year: u32, month: u32, n: u32) -> bool
     requires { ⌜ (1 ≤ month) × (month ≤ 12) × (everyMonthHas days 11 ≡ true) ⌝ }
-    ensures { λ r. ⌜ r ≡ dayWithSubstitute (equinox days month year) n ⌝ }
+    ensures { λ r. ⌜ r ≡ isDayWithSubstitute (equinox days year month) n ⌝ }
 {
     if year < 2020 {
         return false;
@@ -97,7 +99,7 @@ fn is_equinox(days: [u32; 11], month: u32, year: u32, n: u32) -> bool
     is_with_substitute(gregorian::day_number(year, month, day), n)
 }
 
-// [tse-golden-week], and 4 May, which is Greenery Day.
+// [tse-golden-week]
 fn is_bridge_day(year: u32, n: u32) -> bool
     requires { ⌜ (1 ≤ year) × (year ≤ lastYear) ⌝ }
     ensures { λ r. ⌜ r ≡ isBridgeDay year n ⌝ }
@@ -106,8 +108,7 @@ fn is_bridge_day(year: u32, n: u32) -> bool
     let may_4 = fixed_day(year, 5, 4);
     let may_5 = fixed_day(year, 5, 5);
     let may_6 = fixed_day(year, 5, 6);
-    (n == may_4)
-        | ((gregorian::weekday(may_3) == TUESDAY) & (n == fixed_day(year, 5, 2)))
+    ((gregorian::weekday(may_3) == TUESDAY) & (n == fixed_day(year, 5, 2)))
         | ((gregorian::weekday(may_5) == THURSDAY) & (n == may_6))
         | ((gregorian::weekday(may_4) == SUNDAY) & (n == may_6))
 }

@@ -2,7 +2,7 @@
 use Prim.Native.Nat.{ℕ}
 use mathlib.Core.Path.{_≡_, ap, _∙_}
 use borrow.Author.Needs.{needs}
-use Rattle.gregorian.specs.Calendar.{date}
+use Rattle.gregorian.specs.Calendar.{noDate}
 use Rattle.calendar.specs.declared.BoolResult.the-variants.{Ok, Err}
 use Rattle.trading_calendar.specs.declared.BoolAnswer.{BoolAnswer}
 use Rattle.trading_calendar.specs.Answers.{boolAnswer}
@@ -13,7 +13,7 @@ returns : tie.Need-returns
 unfolding boolAnswer
 returns c =
     let e : Ok (c .before .before .result .given .0 .0) ≡ c .before .before .before .before .args .result = cc in
-    ap {B = BoolAnswer} (λ (v : ℕ). record { error = 0; value = v; date = date 0 0 0 }) (c .flag .ensures) ∙ ap boolAnswer e
+    ap {B = BoolAnswer} (λ (v : ℕ). record { error = 0; value = v; date = noDate }) (c .flag .ensures) ∙ ap boolAnswer e
 
 returns-2 : tie.Need-returns-2
 unfolding boolAnswer

@@ -21,7 +21,7 @@ returns c =
     let on3 = s .weekday .ensures ∙ ap weekdayOf may3 in
     let on5 = c .before .weekday2 .ensures ∙ ap weekdayOf may5 in
     let on4 = c .weekday3 .ensures ∙ ap weekdayOf may4 in
-    λ j. eqb n (may4 j) || eqb (on3 j) tuesday && eqb n (c .before .before .fixed-day5 .ensures .0 j) || eqb (on5 j) thursday && eqb n (may6 j) || eqb (on4 j) sunday && eqb n (may6 j)
+    λ j. eqb (on3 j) tuesday && eqb n (c .before .before .fixed-day5 .ensures .0 j) || eqb (on5 j) thursday && eqb n (may6 j) || eqb (on4 j) sunday && eqb n (may6 j)
 
 pub is-bridge-day-spec : {M : Type 1} → statement M
 is-bridge-day-spec =

@@ -4,7 +4,7 @@ use native.Mathlib.Omega.{arith}
 use borrow.Author.Tests.{lt-leb, le-leb}
 use borrow.Author.Needs.{needs}
 use Rattle.gregorian.proofs.Laws.{number-range}
-use Rattle.markets.specs.Japan.{withSubstitute, equinox}
+use Rattle.markets.specs.Japan.{isWithSubstitute, equinox}
 use Rattle.markets.proofs.JapanLaws.{equinox-date}
 use Rattle.markets.proofs.japan.holidays.is_equinox.Statement.{statement}
 use Rattle.markets.proofs.japan.holidays.is_equinox.Tie as tie
@@ -31,7 +31,7 @@ unfolding equinox
 returns-3 c =
     let s = c .before .before .before .before in
     simp (le-leb 2020 (s .args .year) (omega arith), le-leb (s .args .year) 2030 (omega arith))
-    (c .is-with-substitute .ensures ∙ ap (λ d. withSubstitute d (s .args .n)) (c .before .day-number .ensures))
+    (c .is-with-substitute .ensures ∙ ap (λ d. isWithSubstitute d (s .args .n)) (c .before .day-number .ensures))
 
 pub is-equinox-spec : {M : Type 1} → statement M
 is-equinox-spec =

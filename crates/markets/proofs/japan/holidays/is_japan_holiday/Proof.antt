@@ -1,14 +1,14 @@
 -- `markets::japan::holidays::is_japan_holiday` meets its contract: the shorter account is the Rust's set.
 use mathlib.Core.Path.{sym, _∙_}
 use borrow.Author.Needs.{needs}
-use Rattle.markets.proofs.JapanLaws.{short-account}
+use Rattle.markets.proofs.JapanLaws.{japan-contains}
 use Rattle.markets.proofs.japan.holidays.is_japan_holiday.Statement.{statement}
 use Rattle.markets.proofs.japan.holidays.is_japan_holiday.Tie as tie
 
 returns : tie.Need-returns
 returns c =
     let s = c .before .before .before in
-    (cc) ∙ sym (short-account (s .args .year) (s .args .n) (s .pre))
+    (cc) ∙ sym (japan-contains (s .args .year) (s .args .n) (s .pre))
 
 pub is-japan-holiday-spec : {M : Type 1} → statement M
 is-japan-holiday-spec =
