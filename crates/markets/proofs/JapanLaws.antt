@@ -12,50 +12,43 @@ use native.Mathlib.Nat.{eq-or-lt-of-le, le-of-suc-le-suc}
 use borrow.Author.Tests.{leb-true, ltb-true, eqb-true, ne-eqb}
 use Rattle.gregorian.specs.Calendar.{monday, friday, sunday, dayNumber, lastYear, isDate, weekdayOf, date}
 use Rattle.gregorian.proofs.Tests.{and-left, and-right}
-use Rattle.gregorian.proofs.Total.{upto}
 use Rattle.gregorian.proofs.Laws.{is-date, date-by, month-low, number-before}
 use Rattle.utils.specs.declared.OptionalDay.{OptionalDay}
 use Rattle.utils.specs.declared.OptionalDay.the-variants.{Day, None}
 use Rattle.utils.specs.Weekday.{nthWeekdayOfMonth}
 use Rattle.utils.proofs.WeekdayLaws.{when-day, first-near, nth-weekday}
 use Rattle.markets.specs.Days.{contains, insert, insertIf, insertDay, isDay}
-use Rattle.markets.specs.Requires.{everyYearHas, everyMonthHas}
+use Rattle.markets.specs.Requires.{everyYearHas, everyBetween}
 use Rattle.markets.specs.Japan.{substituteDay, addWithSubstitute, addDayWithSubstitute, vernalDays, autumnalDays, equinox, applyGoldenWeekRules, getJapanHolidays, isWithSubstitute, isDayWithSubstitute, isBridgeDay, isHolidayToMarch, isGoldenWeekHoliday, isHolidayFromJuly, isJapanHoliday}
 use Rattle.markets.proofs.DayLaws.{or-assoc, or-false, contains-none, contains-insert, contains-if, every-year-date}
 
--- The equinoxes.
-vernal-range : (i : ℕ) → i < 11 → (20 ≤ getD vernalDays i 0) × (getD vernalDays i 0 ≤ 21)
-vernal-range i h = upto (λ i. (20 ≤ getD vernalDays i 0) × (getD vernalDays i 0 ≤ 21)) 11 (omega arith) i h
-
-autumnal-range : (i : ℕ) → i < 11 → (22 ≤ getD autumnalDays i 0) × (getD autumnalDays i 0 ≤ 23)
-autumnal-range i h = upto (λ i. (22 ≤ getD autumnalDays i 0) × (getD autumnalDays i 0 ≤ 23)) 11 (omega arith) i h
-
-table-day : (days : List ℕ) (k i : ℕ) → everyMonthHas days k ≡ true → i < k → (1 ≤ getD days i 0) × (getD days i 0 ≤ 28)
-table-day days zero i e h = absurd (omega arith)
-table-day days (suc k) i e h =
-    let low = leb 1 (getD days k 0) in
-    let high = leb (getD days k 0) 28 in
-    let here = and-left (low && high) _ e in
-    ⊎-elim (λ (q : i ≡ k). subst (λ (m : ℕ). (1 ≤ getD days m 0) × (getD days m 0 ≤ 28)) (sym q) (leb-true 1 _ (and-left low _ here), leb-true _ 28 (and-right low _ here)))
-    (λ (q : i < k). table-day days k i (and-right (low && high) _ e) q)
+-- The equinoxes: what is computed of a table holds of each of its days.
+between : (low high : ℕ) (list : List ℕ) (k i : ℕ) → everyBetween low high list k ≡ true → i < k → (low ≤ getD list i 0) × (getD list i 0 ≤ high)
+between low high list zero i e h = absurd (omega arith)
+between low high list (suc k) i e h =
+    let l = leb low (getD list k 0) in
+    let u = leb (getD list k 0) high in
+    let here = and-left (l && u) _ e in
+    ⊎-elim (λ (q : i ≡ k). subst (λ (m : ℕ). (low ≤ getD list m 0) × (getD list m 0 ≤ high)) (sym q) (leb-true low _ (and-left l _ here), leb-true _ high (and-right l _ here)))
+    (λ (q : i < k). between low high list k i (and-right (l && u) _ e) q)
     (eq-or-lt-of-le (le-of-suc-le-suc h))
 
-pub equinox-date : (days : List ℕ) (m y : ℕ) → 2020 ≤ y → y ≤ 2030 → (1 ≤ m) × (m ≤ 12) × (everyMonthHas days 11 ≡ true) → isDate y m (getD days (y - 2020) 0) ≡ true
+pub equinox-date : (days : List ℕ) (m y : ℕ) → 2020 ≤ y → y ≤ 2030 → (1 ≤ m) × (m ≤ 12) × (everyBetween 1 28 days 11 ≡ true) → isDate y m (getD days (y - 2020) 0) ≡ true
 equinox-date days m y l h k =
-    let d = table-day days 11 (y - 2020) (k .2) (omega arith) in
+    let d = between 1 28 days 11 (y - 2020) (k .2) (omega arith) in
     date-by y m _ (omega arith, omega arith) (k .0, k .1) (d .0, omega (arith, d, month-low y m (k .0) (k .1)))
 
 in-month : (y m d e : ℕ) → d ≤ e → dayNumber y m d ≤ dayNumber y m e
 unfolding dayNumber
 in-month y m d e h = omega arith
 
-equinox-near : (days : List ℕ) (low high m y t : ℕ) → ((i : ℕ) → i < 11 → (low ≤ getD days i 0) × (getD days i 0 ≤ high)) → equinox days y m ≡ Day t → (dayNumber y m low ≤ t) × (t ≤ dayNumber y m high)
+equinox-near : (days : List ℕ) (low high m y t : ℕ) → everyBetween low high days 11 ≡ true → equinox days y m ≡ Day t → (dayNumber y m low ≤ t) × (t ≤ dayNumber y m high)
 unfolding equinox
 equinox-near days low high m y t k e =
     let c = when-day (leb 2020 y && leb y 2030) (Day (dayNumber y m (getD days (y - 2020) 0))) t e in
     let l = leb-true 2020 y (and-left (leb 2020 y) _ (c .0)) in
     let h = leb-true y 2030 (and-right (leb 2020 y) _ (c .0)) in
-    let d = k (y - 2020) (omega arith) in
+    let d = between low high days 11 (y - 2020) k (omega arith) in
     let q : dayNumber y m (getD days (y - 2020) 0) ≡ t = cc (c .1) in
     (subst (λ (i : ℕ). dayNumber y m low ≤ i) q (in-month y m _ _ (d .0)), subst (λ (i : ℕ). i ≤ dayNumber y m high) q (in-month y m _ _ (d .1)))
 
@@ -205,7 +198,7 @@ japan-contains y n h =
     let s = add s (dayNumber y 2 11) (omega (arith, in-order y 1 14 2 11 h refl)) in
     let s = add s (dayNumber y 2 23) (in-order y 2 11 2 23 h refl) in
     let s = add-day s _ (dayNumber y 3 22) (in-order y 2 23 3 22 h refl)
-    (λ t e. omega (arith, equinox-near vernalDays 20 21 3 y t vernal-range e, in-order y 2 23 3 20 h refl, in-order y 3 21 3 22 h refl)) in
+    (λ t e. omega (arith, equinox-near vernalDays 20 21 3 y t refl e, in-order y 2 23 3 20 h refl, in-order y 3 21 3 22 h refl)) in
     let s = add s (dayNumber y 4 29) (omega (arith, in-order y 3 22 4 29 h refl)) in
     let s = add s (dayNumber y 5 3) (in-order y 4 29 5 3 h refl) in
     let s = golden y s (in-order y 5 3 5 5 h refl) in
@@ -213,7 +206,7 @@ japan-contains y n h =
     let s = add s (dayNumber y 8 11) (omega (arith, in-order y 7 21 8 11 h refl)) in
     let s = put-day s _ (dayNumber y 9 21) (in-order y 8 11 9 21 h refl) (λ t e. nth-high y 9 monday 3 t e (lit≤ tt)) in
     let s = add-day s _ (dayNumber y 9 24) (omega (arith, in-order y 9 21 9 24 h refl))
-    (λ t e. omega (arith, equinox-near autumnalDays 22 23 9 y t autumnal-range e, in-order y 9 21 9 22 h refl, in-order y 9 23 9 24 h refl)) in
+    (λ t e. omega (arith, equinox-near autumnalDays 22 23 9 y t refl e, in-order y 9 21 9 22 h refl, in-order y 9 23 9 24 h refl)) in
     let s = put-day s _ (dayNumber y 10 14) (omega (arith, in-order y 9 24 10 14 h refl)) (λ t e. nth-high y 10 monday 2 t e (lit≤ tt)) in
     let s = add s (dayNumber y 11 3) (omega (arith, in-order y 10 14 11 3 h refl)) in
     let s = add s (dayNumber y 11 23) (in-order y 11 3 11 23 h refl) in

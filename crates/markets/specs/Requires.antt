@@ -10,7 +10,7 @@ use Rattle.gregorian.specs.Calendar.{monthLengths}
 abbrev pub everyYearHas : ℕ → ℕ → Bool
 everyYearHas month day = leb 1 month && leb month 12 && leb 1 day && leb day (getD (monthLengths 0) month 0)
 
--- the first k days of a table are days that every month has
-abbrev pub everyMonthHas : List ℕ → ℕ → Bool
-everyMonthHas days zero = true
-everyMonthHas days (suc k) = leb 1 (getD days k 0) && leb (getD days k 0) 28 && everyMonthHas days k
+-- the first k numbers of a list are from low to high
+abbrev pub everyBetween : ℕ → ℕ → List ℕ → ℕ → Bool
+everyBetween low high list zero = true
+everyBetween low high list (suc k) = leb low (getD list k 0) && leb (getD list k 0) high && everyBetween low high list k

@@ -10,9 +10,7 @@ is-trading-day-requires : tie.Need-is-trading-day-requires
 is-trading-day-requires c κs = day-in-years _ _ _ _ _ (sym (c .before .before .before .checked-day .ensures) ∙ c .before .n .given .1)
 
 returns : tie.Need-returns
-returns c =
-    let s = c .before .before in
-    after-ok _ _ _ _ (isTradingDay _) _ _ (sym (s .n .given .1) ∙ s .before .before .checked-day .ensures) (c .is-trading-day .ensures)
+returns c = after-ok _ _ _ _ (isTradingDay _) _ _ (sym (c .before .before .n .given .1) ∙ c .before .before .before .before .checked-day .ensures) (c .is-trading-day .ensures)
 
 returns-2 : tie.Need-returns-2
 returns-2 c = after-err _ _ _ _ (isTradingDay _) _ (sym (c .before .e .given .1) ∙ c .before .before .before .checked-day .ensures)

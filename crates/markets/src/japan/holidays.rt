@@ -6,7 +6,7 @@ ghost use Prim.Native.Nat.{_≤_};
 ghost use Rattle.gregorian.specs.Calendar.{monday, lastYear, lastDay, dayNumber};
 ghost use Rattle.utils.specs.Weekday.{nthWeekdayOfMonth};
 ghost use Rattle.markets.specs.Days.{contains, isDay};
-ghost use Rattle.markets.specs.Requires.{everyYearHas, everyMonthHas};
+ghost use Rattle.markets.specs.Requires.{everyYearHas, everyBetween};
 ghost use Rattle.markets.specs.Japan.{isWithSubstitute, isDayWithSubstitute, equinox, isBridgeDay, isHolidayToMarch, isGoldenWeekHoliday, isHolidayFromJuly, getJapanHolidays};
 use crate::fixed_day;
 use gregorian::MONDAY;
@@ -86,7 +86,7 @@ fn is_with_substitute(date: u32, n: u32) -> bool
 
 // The equinox of the year, by its days in 2020 to 2030, or its substitute.
 fn is_equinox(days: [u32; 11], year: u32, month: u32, n: u32) -> bool
-    requires { ⌜ (1 ≤ month) × (month ≤ 12) × (everyMonthHas days 11 ≡ true) ⌝ }
+    requires { ⌜ (1 ≤ month) × (month ≤ 12) × (everyBetween 1 28 days 11 ≡ true) ⌝ }
     ensures { λ r. ⌜ r ≡ isDayWithSubstitute (equinox days year month) n ⌝ }
 {
     if year < 2020 {
