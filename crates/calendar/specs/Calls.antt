@@ -26,9 +26,9 @@ mapResult f (DayResult.Ok n) = BoolResult.Ok (f n)
 mapResult f (DayResult.Err e) = BoolResult.Err e
 
 -- is_trading_day
-abbrev pub tradingDayResult : ℕ → ℕ → ℕ → ℕ → BoolResult
-tradingDayResult market year month day = mapResult (isTradingDay market) (checkedDay market year month day)
+abbrev pub isTradingDayResult : ℕ → ℕ → ℕ → ℕ → BoolResult
+isTradingDayResult market year month day = mapResult (isTradingDay market) (checkedDay market year month day)
 
 -- is_holiday
-abbrev pub holidayResult : ℕ → ℕ → ℕ → ℕ → BoolResult
-holidayResult market year month day = mapResult (isHoliday market) (checkedDay market year month day)
+abbrev pub isHolidayResult : ℕ → ℕ → ℕ → ℕ → BoolResult
+isHolidayResult market year month day = mapResult (isHoliday market) (checkedDay market year month day)

@@ -3,7 +3,7 @@
 pub mod error;
 
 ghost use mathlib.Core.Path.{_≡_};
-ghost use Rattle.calendar.specs.Calls.{isSupported, checkedDay, tradingDayResult, holidayResult};
+ghost use Rattle.calendar.specs.Calls.{isSupported, checkedDay, isTradingDayResult, isHolidayResult};
 use crate::error::CalendarError;
 use gregorian::Date;
 
@@ -49,7 +49,7 @@ fn checked_day(market: u32, year: u32, month: u32, day: u32) -> DayResult
 
 // [trading-day]
 pub fn is_trading_day(market: u32, year: u32, month: u32, day: u32) -> BoolResult
-    ensures { λ r. ⌜ r ≡ tradingDayResult market year month day ⌝ }
+    ensures { λ r. ⌜ r ≡ isTradingDayResult market year month day ⌝ }
 {
     match checked_day(market, year, month, day) {
         DayResult::Ok(n) => BoolResult::Ok(markets::is_trading_day(market, n)),
@@ -59,7 +59,7 @@ pub fn is_trading_day(market: u32, year: u32, month: u32, day: u32) -> BoolResul
 
 // [is-holiday]
 pub fn is_holiday(market: u32, year: u32, month: u32, day: u32) -> BoolResult
-    ensures { λ r. ⌜ r ≡ holidayResult market year month day ⌝ }
+    ensures { λ r. ⌜ r ≡ isHolidayResult market year month day ⌝ }
 {
     match checked_day(market, year, month, day) {
         DayResult::Ok(n) => BoolResult::Ok(markets::is_holiday(market, n)),

@@ -20,6 +20,11 @@ DateExists t = Exists (t .year) (t .month) (t .day)
 abbrev pub number : Date → ℕ
 number t = dayNumber (t .year) (t .month) (t .day)
 
+-- day d + k of a month is k days after day d
+pub days-on : (y m d k : ℕ) → dayNumber y m (d + k) ≡ dayNumber y m d + k
+unfolding dayNumber
+days-on y m d k = omega arith
+
 -- The order of dates: by year, then by month, then by day.
 abbrev pub Before : Date → Date → Type 0
 Before s t = (s .year < t .year) ⊎ ((s .year ≡ t .year) × ((s .month < t .month) ⊎ ((s .month ≡ t .month) × (s .day < t .day))))

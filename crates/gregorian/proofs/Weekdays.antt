@@ -1,6 +1,6 @@
 -- The laws of weekdays.
 -- Assumes nothing.
-use Prim.Native.Nat.{ℕ, zero, suc, _+_, _*_, _%_, _≤_}
+use Prim.Native.Nat.{ℕ, zero, suc, _+_, _*_, _%_, _≤_, _<_}
 use mathlib.Core.Path.{_≡_, refl, ap, sym, _∙_}
 use mathlib.Core.Bool.{Bool, true, false, cond}
 use lib.Dec.{eqb}
@@ -18,8 +18,10 @@ pub weekday-weeks : (n k : ℕ) → weekdayOf (n + 7 * k) ≡ weekdayOf n
 unfolding weekdayOf
 weekday-weeks n k = omega arith
 
-pub weekday-week : (n : ℕ) → weekdayOf (n + 7) ≡ weekdayOf n
-weekday-week n = weekday-weeks n 1
+-- from Monday to Saturday, the weekday of the next day is the next number
+pub weekday-after : (n w : ℕ) → w < 6 → (weekdayOf (n + 1) ≡ w + 1 → weekdayOf n ≡ w) × (weekdayOf n ≡ w → weekdayOf (n + 1) ≡ w + 1)
+unfolding weekdayOf
+weekday-after n w h = (λ e. omega arith, λ e. omega arith)
 
 -- The next weekday is the remainder by 7 of one more.
 next-of : (w : ℕ) (b : Bool) → w ≤ 6 → eqb w 6 ≡ b → cond b 0 (w + 1) ≡ (w + 1) % 7

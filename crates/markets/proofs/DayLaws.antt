@@ -2,7 +2,7 @@
 -- Assumes nothing.
 use Prim.Native.Nat.{ℕ, _≤_}
 use mathlib.Core.Path.{_≡_, refl, ap, sym, _∙_}
-use mathlib.Core.Bool.{Bool, true, false, _&&_, _||_}
+use mathlib.Core.Bool.{Bool, true, false, cond, _&&_, _||_}
 use mathlib.Core.List.{List, [], _∷_, _++_}
 use lib.Dec.{leb, eqb}
 use lib.ListN.{getD}
@@ -56,14 +56,10 @@ day-is r d n e = ap (λ (o : OptionalDay). isDay o n) e
 pub none-is : (r : OptionalDay) (n : ℕ) → None ≡ r → false ≡ isDay r n
 none-is r n e = ap (λ (o : OptionalDay). isDay o n) e
 
--- the arms of a `match` on the weekday
-pub on-saturday : (n s t : ℕ) → weekdayOf n ≡ saturday → s ≡ matchWeekend n s t
+-- The arms of a `match` on the weekday: one of a weekday k, and the last.
+pub on-key : (n s t k : ℕ) → weekdayOf n ≡ k → cond (eqb k saturday) s (cond (eqb k sunday) t n) ≡ matchWeekend n s t
 unfolding matchWeekend
-on-saturday n s t e = simp e
-
-pub on-sunday : (n s t : ℕ) → weekdayOf n ≡ sunday → t ≡ matchWeekend n s t
-unfolding matchWeekend
-on-sunday n s t e = simp e
+on-key n s t k e = ap (λ (w : ℕ). cond (eqb w saturday) s (cond (eqb w sunday) t n)) (sym e)
 
 pub on-weekday : (n s t : ℕ) → (weekdayOf n ≡ saturday → ⊥) → (weekdayOf n ≡ sunday → ⊥) → n ≡ matchWeekend n s t
 unfolding matchWeekend

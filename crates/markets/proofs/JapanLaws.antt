@@ -12,7 +12,7 @@ use native.Mathlib.Nat.{eq-or-lt-of-le, le-of-suc-le-suc}
 use borrow.Author.Tests.{leb-true, ltb-true, eqb-true, ne-eqb}
 use Rattle.gregorian.specs.Calendar.{monday, friday, sunday, dayNumber, lastYear, isDate, weekdayOf, date}
 use Rattle.gregorian.proofs.Tests.{and-left, and-right}
-use Rattle.gregorian.proofs.Laws.{is-date, date-by, month-low, number-before}
+use Rattle.gregorian.proofs.Laws.{days-on, is-date, date-by, month-low, number-before}
 use Rattle.utils.specs.declared.OptionalDay.{OptionalDay}
 use Rattle.utils.specs.declared.OptionalDay.the-variants.{Day, None}
 use Rattle.utils.specs.Weekday.{nthWeekdayOfMonth}
@@ -38,9 +38,9 @@ equinox-date days m y l h k =
     let d = between 1 28 days 11 (y - 2020) (k .2) (omega arith) in
     date-by y m _ (omega arith, omega arith) (k .0, k .1) (d .0, omega (arith, d, month-low y m (k .0) (k .1)))
 
-in-month : (y m d e : ℕ) → d ≤ e → dayNumber y m d ≤ dayNumber y m e
+day-order : (y m d e : ℕ) → d ≤ e → dayNumber y m d ≤ dayNumber y m e
 unfolding dayNumber
-in-month y m d e h = omega arith
+day-order y m d e h = omega arith
 
 equinox-near : (days : List ℕ) (low high m y t : ℕ) → everyBetween low high days 11 ≡ true → equinox days y m ≡ Day t → (dayNumber y m low ≤ t) × (t ≤ dayNumber y m high)
 unfolding equinox
@@ -50,7 +50,7 @@ equinox-near days low high m y t k e =
     let h = leb-true y 2030 (and-right (leb 2020 y) _ (c .0)) in
     let d = between low high days 11 (y - 2020) k (omega arith) in
     let q : dayNumber y m (getD days (y - 2020) 0) ≡ t = cc (c .1) in
-    (subst (λ (i : ℕ). dayNumber y m low ≤ i) q (in-month y m _ _ (d .0)), subst (λ (i : ℕ). i ≤ dayNumber y m high) q (in-month y m _ _ (d .1)))
+    (subst (λ (i : ℕ). dayNumber y m low ≤ i) q (day-order y m _ _ (d .0)), subst (λ (i : ℕ). i ≤ dayNumber y m high) q (day-order y m _ _ (d .1)))
 
 -- the nth weekday is in the first n weeks of the month
 nth-high : (y m w n t : ℕ) → nthWeekdayOfMonth y m w n ≡ Day t → 1 ≤ n → t ≤ dayNumber y m (7 * n)
@@ -89,7 +89,7 @@ unfolding contains
 free [] b n u h = refl
 free (d ∷ ds) b n u h = simp (ne-eqb n d (λ e. omega (arith, u .0, h)), free ds b n (u .1) h)
 
--- What is known of a list as it is built up: the test that is the same, and the last day that may be in it.
+-- What is known of a list as it is built up: a test that says what it contains, and a day that none of its days is after.
 record Account (ds : List ℕ) (test : ℕ → Bool) (b : ℕ) : Type 0 where
   same : (n : ℕ) → contains ds n ≡ test n
   high : UpTo ds b
@@ -105,11 +105,14 @@ put {ds} {test} {a} s d b h k =
     record { same = λ n. contains-insert ds d n ∙ ap (λ (t : Bool). t || eqb n d) (s .same n); high = up-to-insert ds d b (up-to-more ds a b h (s .high)) k }
 
 -- An answer's day, and none.
+put-none : {ds : List ℕ} {test : ℕ → Bool} {a : ℕ} → Account ds test a → (b : ℕ) → a ≤ b → Account ds (λ n. test n || false) b
+put-none {ds} {test} {a} s b h =
+    record { same = λ n. s .same n ∙ sym (or-false (test n)); high = up-to-more ds a b h (s .high) }
+
 put-day : {ds : List ℕ} {test : ℕ → Bool} {a : ℕ} → Account ds test a → (r : OptionalDay) (b : ℕ) → a ≤ b → ((t : ℕ) → r ≡ Day t → t ≤ b) → Account (insertDay ds r) (λ n. test n || isDay r n) b
 unfolding insertDay
 put-day s (Day t) b h k = put s t b h (k t refl)
-put-day {ds} {test} {a} s None b h k =
-    record { same = λ n. s .same n ∙ sym (or-false (test n)); high = up-to-more ds a b h (s .high) }
+put-day s None b h k = put-none s b h
 
 -- A date with its substitute, which is the next day: where the date is not before the days of the list, that day is free.
 first-attempt : (ds : List ℕ) (k n : ℕ) → contains ds n ≡ false → substituteDay ds (suc k) n ≡ Day n
@@ -135,8 +138,7 @@ add s d h = add-by s d h (eqb (weekdayOf d) sunday)
 add-day : {ds : List ℕ} {test : ℕ → Bool} {a : ℕ} → Account ds test a → (r : OptionalDay) (b : ℕ) → a ≤ b → ((t : ℕ) → r ≡ Day t → (a ≤ t) × (t + 1 ≤ b)) → Account (addDayWithSubstitute ds r) (λ n. test n || isDayWithSubstitute r n) b
 unfolding addDayWithSubstitute
 add-day s (Day t) b h k = let g = k t refl in later (add s t (g .0)) b (g .1)
-add-day {ds} {test} {a} s None b h k =
-    record { same = λ n. s .same n ∙ sym (or-false (test n)); high = up-to-more ds a b h (s .high) }
+add-day s None b h k = put-none s b h
 
 -- Golden Week: the rule for a Friday 3 May and a Sunday 5 May adds what the substitute of 5 May has added.
 without : (p a b c d e : Bool) → (d ≡ true → p ≡ true) → (p || a || b || c || d || e) ≡ (p || a || (b || c || e))
@@ -148,25 +150,21 @@ or-true : (a : Bool) → (a || true) ≡ true
 or-true true = refl
 or-true false = refl
 
-next-may : (y : ℕ) → dayNumber y 5 6 ≡ dayNumber y 5 5 + 1
-unfolding dayNumber
-next-may y = omega arith
-
 substituted : (y n : ℕ) (q f : Bool) → (f && eqb (weekdayOf (dayNumber y 5 5)) sunday && eqb n (dayNumber y 5 6)) ≡ true → (q || isWithSubstitute (dayNumber y 5 5) n) ≡ true
 substituted y n q f e =
     let t = eqb (weekdayOf (dayNumber y 5 5)) sunday in
     let w = and-right f t (and-left (f && t) _ e) in
-    let k : eqb n (dayNumber y 5 5 + 1) ≡ true = ap (λ (d : ℕ). eqb n d) (sym (next-may y)) ∙ and-right (f && t) _ e in
+    let k : eqb n (dayNumber y 5 5 + 1) ≡ true = ap (λ (d : ℕ). eqb n d) (sym (days-on y 5 5 1)) ∙ and-right (f && t) _ e in
     simp (w, k, or-true)
 
 golden : {ds : List ℕ} {test : ℕ → Bool} {a : ℕ} (y : ℕ) → Account ds test a → a ≤ dayNumber y 5 5 → Account (applyGoldenWeekRules y (addWithSubstitute ds (dayNumber y 5 5))) (λ n. test n || isWithSubstitute (dayNumber y 5 5) n || eqb n (dayNumber y 5 4) || isBridgeDay y n) (dayNumber y 5 6)
 unfolding applyGoldenWeekRules isBridgeDay
 golden {ds} {test} {a} y s h =
-    let i = later (add s (dayNumber y 5 5) h) (dayNumber y 5 6) (omega (arith, next-may y)) in
+    let i = later (add s (dayNumber y 5 5) h) (dayNumber y 5 6) (omega (arith, days-on y 5 5 1)) in
     let b = dayNumber y 5 6 in
     record {
       same = λ n. simp (contains-if, contains-insert, i .same n) (without (test n || isWithSubstitute (dayNumber y 5 5) n) _ _ _ _ _ (substituted y n (test n) (eqb (weekdayOf (dayNumber y 5 3)) friday)));
-      high = up-to-if _ _ _ b (up-to-if _ _ _ b (up-to-if _ _ _ b (up-to-if _ _ _ b (up-to-insert _ _ b (i .high) (in-month y 5 4 6 (lit≤ tt))) (in-month y 5 2 6 (lit≤ tt))) (omega arith)) (omega arith)) (omega arith);
+      high = up-to-if _ _ _ b (up-to-if _ _ _ b (up-to-if _ _ _ b (up-to-if _ _ _ b (up-to-insert _ _ b (i .high) (day-order y 5 4 6 (lit≤ tt))) (day-order y 5 2 6 (lit≤ tt))) (omega arith)) (omega arith)) (omega arith);
     }
 
 -- Each date with a substitute is later than what was inserted before it.

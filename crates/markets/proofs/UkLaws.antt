@@ -3,28 +3,23 @@
 use Prim.Native.Nat.{ℕ, _+_}
 use mathlib.Core.Path.{_≡_, refl, ap, sym, _∙_}
 use mathlib.Core.Bool.{Bool, true, false, cond, _||_}
-use mathlib.Core.List.{List, []}
-use lib.Dec.{eqb}
+use mathlib.Core.List.{List}
+use lib.Dec.{eqb, lit≤}
 use native.Mathlib.Omega.{arith}
 use borrow.Author.Tests.{eqb-true, eqb-false, ne-eqb}
 use Rattle.gregorian.specs.Calendar.{monday, friday, saturday, sunday, dayNumber, weekdayOf}
+use Rattle.gregorian.proofs.Laws.{days-on}
+use Rattle.gregorian.proofs.Weekdays.{weekday-after}
 use Rattle.utils.specs.Weekday.{nthWeekdayOfMonth, lastWeekdayOfMonth}
 use Rattle.utils.specs.Easter.{calculateGoodFriday, calculateEasterMonday}
 use Rattle.markets.specs.Days.{contains, insert, isDay, adjustForWeekend}
-use Rattle.markets.specs.Uk.{addBoxingDay, isChristmasOrBoxingDay, getUkHolidays}
-use Rattle.markets.proofs.DayLaws.{contains-none, contains-insert, contains-day, on-saturday, on-sunday, on-weekday}
+use Rattle.markets.specs.Uk.{addBoxingDay, isOneOfTwo, isChristmasOrBoxingDay, getUkHolidays}
+use Rattle.markets.proofs.DayLaws.{contains-none, contains-insert, contains-day, on-key, on-weekday}
 
--- The test of the code, from Christmas Day d and its weekday w; where w is none of three weekdays, its last case.
-abbrev isOne : ℕ → ℕ → ℕ → Bool
-isOne n d w =
-    cond (eqb w friday) (eqb n d || eqb n (d + 3))
-    (cond (eqb w saturday) (eqb n (d + 2) || eqb n (d + 3))
-    (cond (eqb w sunday) (eqb n (d + 1) || eqb n (d + 2))
-    (eqb n d || eqb n (d + 1))))
-
-pub christmas-on : (k y n d w : ℕ) → w ≡ k → w ≡ weekdayOf d → d ≡ dayNumber y 12 25 → isOne n d k ≡ isChristmasOrBoxingDay y n
+-- The arms of the code, one of a weekday k, and the last.
+pub christmas-on : (k y n d w : ℕ) → w ≡ k → w ≡ weekdayOf d → d ≡ dayNumber y 12 25 → isOneOfTwo n d k ≡ isChristmasOrBoxingDay y n
 unfolding isChristmasOrBoxingDay
-christmas-on k y n d w e f g = ap (isOne n d) (sym e ∙ f) ∙ ap (λ (x : ℕ). isOne n x (weekdayOf x)) g
+christmas-on k y n d w e f g = ap (isOneOfTwo n d) (sym e ∙ f) ∙ ap (λ (x : ℕ). isOneOfTwo n x (weekdayOf x)) g
 
 pub christmas-else : (y n d : ℕ) → d ≡ dayNumber y 12 25 → (weekdayOf d ≡ friday → ⊥) → (weekdayOf d ≡ saturday → ⊥) → (weekdayOf d ≡ sunday → ⊥) → (eqb n d || eqb n (d + 1)) ≡ isChristmasOrBoxingDay y n
 christmas-else y n d g p q r =
@@ -39,36 +34,31 @@ twice false false b = refl
 two-days : (ds : List ℕ) (x y z i j n : ℕ) → x ≡ i → y ≡ i → z ≡ j → contains (insert (insert (insert ds x) y) z) n ≡ (contains ds n || (eqb n i || eqb n j))
 two-days ds x y z i j n p q r = simp (contains-insert, p, q, r) (twice (contains ds n) (eqb n i) (eqb n j))
 
-december : (y : ℕ) → (dayNumber y 12 26 ≡ dayNumber y 12 25 + 1) × (dayNumber y 12 27 ≡ dayNumber y 12 25 + 2) × (dayNumber y 12 28 ≡ dayNumber y 12 25 + 3)
-unfolding dayNumber
-december y = omega arith
-
 -- no move from Monday to Friday
 stays : (n : ℕ) → (weekdayOf n ≡ saturday → ⊥) → (weekdayOf n ≡ sunday → ⊥) → adjustForWeekend n ≡ n
 stays n p q = sym (on-weekday n (n + 2) (n + 1) p q)
 
 -- Boxing Day is on a weekend only after a Friday or a Saturday.
-boxing-stays : (n m : ℕ) → m ≡ n + 1 → (weekdayOf n ≡ friday → ⊥) → (weekdayOf n ≡ saturday → ⊥) → adjustForWeekend m ≡ m
-unfolding weekdayOf
-boxing-stays n m e p q = stays m (λ h. p (omega arith)) (λ h. q (omega arith))
+boxing-stays : (n : ℕ) → (weekdayOf n ≡ friday → ⊥) → (weekdayOf n ≡ saturday → ⊥) → adjustForWeekend (n + 1) ≡ n + 1
+boxing-stays n p q = stays (n + 1) (λ h. p (weekday-after n friday (lit≤ tt) .0 h)) (λ h. q (weekday-after n saturday (lit≤ tt) .0 h))
 
 -- Christmas Day and add_boxing_day together insert the two days, by the weekday of Christmas Day.
 two-days-of : (ds : List ℕ) (y n : ℕ) (p q r : Bool) → eqb (weekdayOf (dayNumber y 12 25)) friday ≡ p → eqb (weekdayOf (dayNumber y 12 25)) saturday ≡ q → eqb (weekdayOf (dayNumber y 12 25)) sunday ≡ r → contains (addBoxingDay (insert ds (adjustForWeekend (dayNumber y 12 25))) y) n ≡ (contains ds n || isChristmasOrBoxingDay y n)
 unfolding addBoxingDay isChristmasOrBoxingDay
 two-days-of ds y n true q r ep eq er =
-    let d = december y in
+    let d = days-on y 12 25 in
     let w = eqb-true (weekdayOf (dayNumber y 12 25)) friday ep in
-    simp ep (two-days ds _ _ _ (dayNumber y 12 25) (dayNumber y 12 25 + 3) n (stays _ (λ h. omega arith) (λ h. omega arith)) refl (omega (arith, d)))
+    simp ep (two-days ds _ _ _ (dayNumber y 12 25) (dayNumber y 12 25 + 3) n (stays _ (λ h. omega arith) (λ h. omega arith)) refl (omega (arith, d 1)))
 two-days-of ds y n false true r ep eq er =
-    let d = december y in
-    simp (ep, eq) (two-days ds _ _ _ (dayNumber y 12 25 + 2) (dayNumber y 12 25 + 3) n (sym (on-saturday _ _ _ (eqb-true _ saturday eq))) (d .1) (d .2))
+    let d = days-on y 12 25 in
+    simp (ep, eq) (two-days ds _ _ _ (dayNumber y 12 25 + 2) (dayNumber y 12 25 + 3) n (sym (on-key _ _ _ _ (eqb-true _ saturday eq))) (d 2) (d 3))
 two-days-of ds y n false false true ep eq er =
-    let d = december y in
-    simp (ep, eq, er) (two-days ds _ _ _ (dayNumber y 12 25 + 1) (dayNumber y 12 25 + 2) n (sym (on-sunday _ _ _ (eqb-true _ sunday er))) (d .0) (d .1))
+    let d = days-on y 12 25 in
+    simp (ep, eq, er) (two-days ds _ _ _ (dayNumber y 12 25 + 1) (dayNumber y 12 25 + 2) n (sym (on-key _ _ _ _ (eqb-true _ sunday er))) (d 1) (d 2))
 two-days-of ds y n false false false ep eq er =
-    let d = december y in
-    let b = boxing-stays _ _ (d .0) (eqb-false _ friday ep) (eqb-false _ saturday eq) in
-    simp (ep, eq, er) (two-days ds _ _ _ (dayNumber y 12 25) (dayNumber y 12 25 + 1) n (stays _ (eqb-false _ saturday eq) (eqb-false _ sunday er)) refl (b ∙ d .0))
+    let d = days-on y 12 25 in
+    let b = ap (λ (i : ℕ). adjustForWeekend i) (d 1) ∙ boxing-stays _ (eqb-false _ friday ep) (eqb-false _ saturday eq) in
+    simp (ep, eq, er) (two-days ds _ _ _ (dayNumber y 12 25) (dayNumber y 12 25 + 1) n (stays _ (eqb-false _ saturday eq) (eqb-false _ sunday er)) refl b)
 
 pub uk-contains : (y n : ℕ) → contains (getUkHolidays y) n ≡ (eqb n (adjustForWeekend (dayNumber y 1 1)) || isDay (calculateGoodFriday y) n || isDay (calculateEasterMonday y) n || isDay (nthWeekdayOfMonth y 5 monday 1) n || isDay (lastWeekdayOfMonth y 5 monday) n || isDay (lastWeekdayOfMonth y 8 monday) n || isChristmasOrBoxingDay y n)
 unfolding getUkHolidays

@@ -32,12 +32,15 @@ getUkHolidays year =
     let holidays = insert holidays (adjustForWeekend (dayNumber year 12 25)) in  -- Christmas Day
     addBoxingDay holidays year
 
--- The shorter account of Christmas Day and add_boxing_day, [lse-holidays]: n is one of the two days of December. They insert
--- just these: proofs/UkLaws.antt, `uk-contains`. No exported contract rests on it.
-unfoldable pub isChristmasOrBoxingDay : ℕ → ℕ → Bool
-isChristmasOrBoxingDay year n =
-    let christmas = dayNumber year 12 25 in
-    cond (eqb (weekdayOf christmas) friday) (eqb n christmas || eqb n (christmas + 3))
-    (cond (eqb (weekdayOf christmas) saturday) (eqb n (christmas + 2) || eqb n (christmas + 3))
-    (cond (eqb (weekdayOf christmas) sunday) (eqb n (christmas + 1) || eqb n (christmas + 2))
+-- The shorter account of Christmas Day and add_boxing_day, [lse-holidays]: n is one of the two days of December, from the day
+-- number of Christmas Day and its weekday. They insert just these: proofs/UkLaws.antt, `uk-contains`. No exported contract
+-- rests on it.
+abbrev pub isOneOfTwo : ℕ → ℕ → ℕ → Bool
+isOneOfTwo n christmas weekday =
+    cond (eqb weekday friday) (eqb n christmas || eqb n (christmas + 3))
+    (cond (eqb weekday saturday) (eqb n (christmas + 2) || eqb n (christmas + 3))
+    (cond (eqb weekday sunday) (eqb n (christmas + 1) || eqb n (christmas + 2))
     (eqb n christmas || eqb n (christmas + 1))))
+
+unfoldable pub isChristmasOrBoxingDay : ℕ → ℕ → Bool
+isChristmasOrBoxingDay year n = let christmas = dayNumber year 12 25 in isOneOfTwo n christmas (weekdayOf christmas)

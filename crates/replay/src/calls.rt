@@ -76,8 +76,8 @@ pub fn answer(kind: usize, inputs: Numbers) -> Numbers {
         CALCULATE_EASTER => optional_date(tc_calculate_easter(v[0])),
         CALCULATE_GOOD_FRIDAY => optional_date(tc_calculate_good_friday(v[0])),
         CALCULATE_EASTER_MONDAY => optional_date(tc_calculate_easter_monday(v[0])),
-        IS_TRADING_DAY => bool_result(tc_is_trading_day(v[0], v[1], v[2], v[3])),
-        IS_HOLIDAY => bool_result(tc_is_holiday(v[0], v[1], v[2], v[3])),
+        IS_TRADING_DAY => bool_answer(tc_is_trading_day(v[0], v[1], v[2], v[3])),
+        IS_HOLIDAY => bool_answer(tc_is_holiday(v[0], v[1], v[2], v[3])),
         _ => Numbers::new(),
     }
 }
@@ -99,7 +99,7 @@ fn optional_date(answer: OptionalDate) -> Numbers {
         .push(date.day)
 }
 
-fn bool_result(answer: BoolAnswer) -> Numbers {
+fn bool_answer(answer: BoolAnswer) -> Numbers {
     let date = answer.date;
     Numbers::new()
         .push(answer.error)

@@ -3,7 +3,7 @@
 ghost use mathlib.Core.Path.{_≡_};
 ghost use Rattle.utils.specs.Weekday.{InYears, nthWeekdayOfMonth, lastWeekdayOfMonth};
 ghost use Rattle.utils.specs.Easter.{calculateEaster, calculateGoodFriday, calculateEasterMonday};
-ghost use Rattle.calendar.specs.Calls.{tradingDayResult, holidayResult};
+ghost use Rattle.calendar.specs.Calls.{isTradingDayResult, isHolidayResult};
 ghost use Rattle.trading_calendar.specs.Answers.{optionalDate, flagOf, boolAnswer};
 use calendar::BoolResult;
 use calendar::error;
@@ -115,7 +115,7 @@ fn bool_answer(result: BoolResult) -> BoolAnswer
 // [trading-day]: yes or no, or the first of errors 8, 5 and 1 that applies.
 #[no_mangle]
 pub extern "C" fn tc_is_trading_day(market: u32, year: u32, month: u32, day: u32) -> BoolAnswer
-    ensures { λ r. ⌜ r ≡ boolAnswer (tradingDayResult market year month day) ⌝ }
+    ensures { λ r. ⌜ r ≡ boolAnswer (isTradingDayResult market year month day) ⌝ }
 {
     bool_answer(calendar::is_trading_day(market, year, month, day))
 }
@@ -123,7 +123,7 @@ pub extern "C" fn tc_is_trading_day(market: u32, year: u32, month: u32, day: u32
 // [is-holiday]: yes or no, or the first of errors 8, 5 and 1 that applies.
 #[no_mangle]
 pub extern "C" fn tc_is_holiday(market: u32, year: u32, month: u32, day: u32) -> BoolAnswer
-    ensures { λ r. ⌜ r ≡ boolAnswer (holidayResult market year month day) ⌝ }
+    ensures { λ r. ⌜ r ≡ boolAnswer (isHolidayResult market year month day) ⌝ }
 {
     bool_answer(calendar::is_holiday(market, year, month, day))
 }

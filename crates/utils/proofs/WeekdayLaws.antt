@@ -9,7 +9,7 @@ use borrow.Author.Tests.{leb-true, eqb-true, eqb-false, le-leb, le-ltb, lt-ltb, 
 use Rattle.gregorian.specs.Calendar.{monthLength, dayNumber, lastDay, Exists, isDate, dayAfter, dateOf, date, weekdayOf}
 use Rattle.gregorian.specs.declared.Date.{Date}
 use Rattle.gregorian.proofs.Tests.{and-left, and-right}
-use Rattle.gregorian.proofs.Laws.{is-date, date-is, month-low, next-number, number-range, date-of-number}
+use Rattle.gregorian.proofs.Laws.{days-on, is-date, date-is, month-low, next-number, number-range, date-of-number}
 use Rattle.gregorian.proofs.Weekdays.{weekday-weeks}
 use Rattle.utils.specs.declared.OptionalDay.{OptionalDay}
 use Rattle.utils.specs.declared.OptionalDay.the-variants.{Day, None}
@@ -59,11 +59,6 @@ pub nth-found : (y m w n : ℕ) → isDate y m 1 ≡ true → w ≤ 6 → 1 ≤ 
 unfolding nthWeekdayOfMonth ifInMonth
 nth-found y m w n h w6 n1 l e = simp (h, le-leb w 6 w6, le-leb 1 n n1, le-leb _ lastDay l, eq-eqb _ m e)
 
--- day d of the month has the number of its first day and d - 1 more
-day-in-month : (y m d : ℕ) → dayNumber y m 1 + d ≡ dayNumber y m (d + 1)
-unfolding dayNumber
-day-in-month y m d = omega arith
-
 -- The first four are in the month itself.
 pub nth-early : (y m w n : ℕ) → isDate y m 1 ≡ true → w ≤ 6 → 1 ≤ n → n ≤ 4 → nthWeekdayOfMonth y m w n ≡ Day (targetDay y m w n)
 unfolding targetDay
@@ -71,11 +66,11 @@ nth-early y m w n h w6 n1 n4 =
     let f = first-near (dayNumber y m 1) w in
     let x = is-date y m 1 h .exists in
     let k = firstFrom (dayNumber y m 1) w + 7 * (n - 1) - dayNumber y m 1 in
-    let g : Exists y m (k + 1) =
+    let g : Exists y m (1 + k) =
     record { y-low = x .y-low; m-low = x .m-low; m-high = x .m-high; d-low = omega arith; d-high = omega (arith, f, month-low y m (x .m-low) (x .m-high)) } in
-    let q : targetDay y m w n ≡ dayNumber y m (k + 1) = omega (arith, f, day-in-month y m k) in
-    let r = number-range y m (k + 1) (date-is y m (k + 1) (record { exists = g; y-high = is-date y m 1 h .y-high })) in
-    nth-found y m w n h w6 n1 (omega (arith, q, r)) (ap (λ (i : ℕ). dateOf i .month) q ∙ ap (λ (t : Date). t .month) (date-of-number (date y m (k + 1)) g))
+    let q : targetDay y m w n ≡ dayNumber y m (1 + k) = omega (arith, f, days-on y m 1 k) in
+    let r = number-range y m (1 + k) (date-is y m (1 + k) (record { exists = g; y-high = is-date y m 1 h .y-high })) in
+    nth-found y m w n h w6 n1 (omega (arith, q, r)) (ap (λ (i : ℕ). dateOf i .month) q ∙ ap (λ (t : Date). t .month) (date-of-number (date y m (1 + k)) g))
 
 -- The loop of the last weekday ends (weekdayOf n + 7 - w) % 7 days back.
 last-step : (w n : ℕ) → lastUpTo w (suc n) ≡ cond (eqb (weekdayOf (suc n)) w) (suc n) (lastUpTo w n)

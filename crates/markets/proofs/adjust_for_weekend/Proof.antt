@@ -2,19 +2,19 @@
 use Prim.Native.Nat.{_+_}
 use mathlib.Core.Path.{sym, _∙_}
 use borrow.Author.Needs.{needs}
-use Rattle.markets.proofs.DayLaws.{on-saturday, on-sunday, on-weekday}
+use Rattle.markets.proofs.DayLaws.{on-key, on-weekday}
 use Rattle.markets.proofs.adjust_for_weekend.Statement.{statement}
 use Rattle.markets.proofs.adjust_for_weekend.Tie as tie
 
 returns : tie.Need-returns
 returns c =
     let n = c .before .before .args .n in
-    on-saturday n (n + 2) (n + 1) (sym (c .before .weekday .ensures) ∙ c .match .keys1)
+    on-key n (n + 2) (n + 1) _ (sym (c .before .weekday .ensures) ∙ c .match .keys1)
 
 returns-2 : tie.Need-returns-2
 returns-2 c =
     let n = c .before .before .args .n in
-    on-sunday n (n + 2) (n + 1) (sym (c .before .weekday .ensures) ∙ c .match .keys2)
+    on-key n (n + 2) (n + 1) _ (sym (c .before .weekday .ensures) ∙ c .match .keys2)
 
 returns-3 : tie.Need-returns-3
 returns-3 c =

@@ -1,6 +1,5 @@
 -- `trading_calendar::optional_date` meets its contract: both arms; the day is in years 1 to 9999.
 use mathlib.Core.Path.{_≡_, ap, _∙_, subst}
-use mathlib.Core.Path.{ap, _∙_, subst}
 use borrow.Author.Needs.{needs}
 use Rattle.gregorian.specs.declared.Date.{Date}
 use Rattle.utils.specs.declared.OptionalDay.the-variants.{Day, None}

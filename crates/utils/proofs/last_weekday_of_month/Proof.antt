@@ -6,7 +6,7 @@ use native.Mathlib.Omega.{arith}
 use borrow.Author.Tests.{not-true, not-false, lt-leb, le-leb}
 use borrow.Author.Needs.{needs}
 use Rattle.gregorian.specs.Calendar.{isDate}
-use Rattle.utils.specs.declared.OptionalDay.the-variants.{Day, None}
+use Rattle.utils.specs.declared.OptionalDay.the-variants.{Day}
 use Rattle.utils.specs.Weekday.{firstOfNext, lastWeekdayOfMonth}
 use Rattle.utils.proofs.WeekdayLaws.{first-of-next}
 use Rattle.utils.proofs.last_weekday_of_month.Statement.{statement}
@@ -18,7 +18,7 @@ is-month c = sym (c .before .is-date .ensures) ∙ not-false _ (c .if1 .left)
 
 -- what is known of the first of the next month, where there is one
 known : (c : tie.After-known-told) → firstOfNext (c .before .before .before .before .before .before .before .args .year) (c .before .before .before .before .before .before .before .args .month) ≡ Day (c .before .first-of-next2 .given .0 .0)
-known c = cc
+known c = sym (c .before .before .before .first-of-next .ensures) ∙ c .before .first-of-next2 .given .1
 
 returns : tie.Need-returns
 unfolding lastWeekdayOfMonth
@@ -35,8 +35,7 @@ returns-3 : tie.Need-returns-3
 unfolding lastWeekdayOfMonth
 returns-3 c =
     let s = c .before .before .before in
-    let e : firstOfNext (s .before .before .before .args .year) (s .before .before .before .args .month) ≡ None = cc in
-    simp (is-month (s .before), le-leb _ _ (s .if2 .left), e)
+    simp (is-month (s .before), le-leb _ _ (s .if2 .left), sym (c .before .before .first-of-next .ensures) ∙ c .enum-told .given .1)
 
 sub-last-up-to : tie.Need-sub-last-up-to
 sub-last-up-to c =

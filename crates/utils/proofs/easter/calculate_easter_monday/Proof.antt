@@ -1,6 +1,6 @@
 -- `utils::easter::calculate_easter_monday` meets its contract: Easter is in years 1 to 9999, so the sum fits.
 use Prim.Native.Nat.{_+_}
-use mathlib.Core.Path.{_≡_, sym}
+use mathlib.Core.Path.{_≡_, sym, _∙_}
 use native.Mathlib.Omega.{arith}
 use borrow.Author.Needs.{needs}
 use Rattle.utils.specs.declared.OptionalDay.the-variants.{Day}
@@ -11,11 +11,11 @@ use Rattle.utils.proofs.easter.calculate_easter_monday.Tie as tie
 
 -- past `let .. else`, Easter is there
 known : (c : tie.After-known-told) → Day (c .before .easter .given .0 .0) ≡ calculateEaster (c .before .before .before .before .args .year)
-known c = cc
+known c = sym (c .before .easter .given .1) ∙ c .before .before .before .calculate-easter .ensures
 
 returns : tie.Need-returns
 unfolding calculateEasterMonday
-returns c = after-none (λ n. n + 1) _ (cc)
+returns c = after-none (λ n. n + 1) _ (sym (c .enum-told .given .1) ∙ c .before .before .calculate-easter .ensures)
 
 add-t4 : tie.Need-add-t4
 add-t4 c = omega (arith, easter-day _ _ (sym (known c)))

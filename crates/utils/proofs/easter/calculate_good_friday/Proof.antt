@@ -1,6 +1,6 @@
 -- `utils::easter::calculate_good_friday` meets its contract: Easter is late enough in its year to go back from.
 use Prim.Native.Nat.{_-_}
-use mathlib.Core.Path.{_≡_, sym}
+use mathlib.Core.Path.{_≡_, sym, _∙_}
 use native.Mathlib.Omega.{arith}
 use borrow.Author.Needs.{needs}
 use Rattle.utils.specs.declared.OptionalDay.the-variants.{Day}
@@ -11,11 +11,11 @@ use Rattle.utils.proofs.easter.calculate_good_friday.Tie as tie
 
 -- past `let .. else`, Easter is there
 known : (c : tie.After-known-told) → Day (c .before .easter .given .0 .0) ≡ calculateEaster (c .before .before .before .before .args .year)
-known c = cc
+known c = sym (c .before .easter .given .1) ∙ c .before .before .before .calculate-easter .ensures
 
 returns : tie.Need-returns
 unfolding calculateGoodFriday
-returns c = after-none (λ n. n - 2) _ (cc)
+returns c = after-none (λ n. n - 2) _ (sym (c .enum-told .given .1) ∙ c .before .before .calculate-easter .ensures)
 
 sub-t4 : tie.Need-sub-t4
 sub-t4 c = omega (arith, easter-day _ _ (sym (known c)))

@@ -3,7 +3,7 @@ use Prim.Native.Nat.{ℕ, _+_}
 use mathlib.Core.Path.{ap, sym, _∙_}
 use borrow.Author.Needs.{needs}
 use Rattle.markets.specs.Days.{matchWeekend}
-use Rattle.markets.proofs.DayLaws.{on-saturday, on-sunday, on-weekday}
+use Rattle.markets.proofs.DayLaws.{on-key, on-weekday}
 use Rattle.markets.proofs.CanadaLaws.{boxing-day-is}
 use Rattle.markets.proofs.canada.holidays.boxing_day.Statement.{statement}
 use Rattle.markets.proofs.canada.holidays.boxing_day.Tie as tie
@@ -14,12 +14,14 @@ observed boxing = matchWeekend boxing (boxing + 2) (boxing + 2)
 
 returns : tie.Need-returns
 returns c =
-    on-saturday _ _ _ (sym (c .before .weekday .ensures) ∙ c .match .keys1)
+    let d = c .before .before .fixed-day .result in
+    on-key d (d + 2) (d + 2) _ (sym (c .before .weekday .ensures) ∙ c .match .keys1)
     ∙ ap observed (c .before .before .fixed-day .ensures .0) ∙ sym (boxing-day-is _)
 
 returns-2 : tie.Need-returns-2
 returns-2 c =
-    on-sunday _ _ _ (sym (c .before .weekday .ensures) ∙ c .match .keys2)
+    let d = c .before .before .fixed-day .result in
+    on-key d (d + 2) (d + 2) _ (sym (c .before .weekday .ensures) ∙ c .match .keys2)
     ∙ ap observed (c .before .before .fixed-day .ensures .0) ∙ sym (boxing-day-is _)
 
 returns-3 : tie.Need-returns-3

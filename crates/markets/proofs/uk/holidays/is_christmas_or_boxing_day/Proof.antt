@@ -7,13 +7,13 @@ use Rattle.markets.proofs.uk.holidays.is_christmas_or_boxing_day.Statem
 use Rattle.markets.proofs.uk.holidays.is_christmas_or_boxing_day.Tie as tie
 
 returns : tie.Need-returns
-returns c = christmas-on friday _ _ _ _ (c .match .keys1) (c .before .weekday .ensures) (c .before .before .fixed-day .ensures .0)
+returns c = christmas-on friday _ (c .before .before .before .args .n) (c .before .before .fixed-day .result) _ (c .match .keys1) (c .before .weekday .ensures) (c .before .before .fixed-day .ensures .0)
 
 returns-2 : tie.Need-returns-2
-returns-2 c = christmas-on saturday _ _ _ _ (c .match .keys2) (c .before .weekday .ensures) (c .before .before .fixed-day .ensures .0)
+returns-2 c = christmas-on saturday _ (c .before .before .before .args .n) (c .before .before .fixed-day .result) _ (c .match .keys2) (c .before .weekday .ensures) (c .before .before .fixed-day .ensures .0)
 
 returns-3 : tie.Need-returns-3
-returns-3 c = christmas-on sunday _ _ _ _ (c .match .keys3) (c .before .weekday .ensures) (c .before .before .fixed-day .ensures .0)
+returns-3 c = christmas-on sunday _ (c .before .before .before .args .n) (c .before .before .fixed-day .result) _ (c .match .keys3) (c .before .weekday .ensures) (c .before .before .fixed-day .ensures .0)
 
 returns-4 : tie.Need-returns-4
 returns-4 c =
