@@ -60,7 +60,7 @@ static void print_markets(uint32_t year) {
 
 int main(int argc, char **argv) {
     char *end = NULL;
-    unsigned long number = argc == 2 ? strtoul(argv[1], &end, 10) : 0;
+    unsigned long long number = argc == 2 ? strtoull(argv[1], &end, 10) : 0;
 
     if (argc != 2 || end == argv[1] || *end != '\0' || number > UINT32_MAX) {
         fprintf(stderr, "usage: example YEAR\n");

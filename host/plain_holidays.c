@@ -2,6 +2,8 @@
 #include "plain_calendar.h"
 
 #include <stddef.h>
+#include <stdio.h>
+#include <stdlib.h>
 
 #define LENGTH(list) (sizeof(list) / sizeof(list)[0])
 
@@ -36,7 +38,13 @@ static const struct {
 
 static int row_of(tc_date date) { return plain_row(date.year, date.month, date.day); }
 
-static void enter(int markets, int row) { closed[row] |= (uint8_t)markets; }
+static void enter(int markets, int row) {
+    if (row < 0) {
+        fprintf(stderr, "the plain calendar has no such day\n");
+        exit(1);
+    }
+    closed[row] |= (uint8_t)markets;
+}
 
 static void enter_fixed(int year) {
     for (size_t i = 0; i < LENGTH(fixed); i++) {
@@ -56,7 +64,7 @@ static void enter_moving(int year) {
     }
 }
 
-/* Good Friday and Easter Monday; 24 May at TSX, or the Monday before it; the two days of December at LSE, which hang on the
+/* Good Friday and Easter Monday; 24 May at TSX, or the Monday before it; the two days of December at LSE, which depend on the
  * weekday of the 25th. */
 static void enter_others(int year) {
     static const int december[][2] = {{25, 26}, {25, 26}, {25, 26}, {25, 26}, {25, 28}, {27, 28}, {26, 27}};
@@ -93,7 +101,7 @@ static void enter_tse(int year) {
     for (size_t i = 0; i < LENGTH(dates); i++) enter_with_substitute(year, dates[i][0], dates[i][1]);
     enter_equinoxes(year);
 
-    /* [tse-golden-week]: on a Tuesday the 5th is a Thursday, and on a Saturday the 4th is a Sunday. */
+    /* [tse-golden-week]: if the 3rd is a Tuesday the 5th is a Thursday, and if it is a Saturday the 4th is a Sunday. */
     if (may_3 == TUE) enter(TSE, plain_row(year, MAY, 2));
     if (may_3 == TUE || may_3 == SAT) enter(TSE, plain_row(year, MAY, 6));
 }

@@ -78,7 +78,7 @@ unfoldable pub dateOf : ℕ → Date
 dateOf zero = date 0 12 31
 dateOf (suc n) = dayAfter (dateOf n)
 
--- the numbers of weekdays
+-- the numbers of weekdays, those that are asked for by name
 abbrev pub monday : ℕ
 monday = 0
 

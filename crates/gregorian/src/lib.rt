@@ -16,6 +16,7 @@ const LENGTHS: [u32; 13] = [0, 31, 28, 31, 30, 31, 30, 31, 31, 30, 31, 30, 31];
 // The days of the first k months in a year that is not leap.
 const STARTS: [u32; 13] = [0, 31, 59, 90, 120, 151, 181, 212, 243, 273, 304, 334, 365];
 
+// The numbers of weekdays, 0 Monday to 6 Sunday; those that are asked for by name.
 pub const MONDAY: u32 = 0;
 
 pub const TUESDAY: u32 = 1;

@@ -29,13 +29,14 @@ unfoldable pub addDayWithSubstitute : List ℕ → OptionalDay → List ℕ
 addDayWithSubstitute holidays (Day date) = addWithSubstitute holidays date
 addDayWithSubstitute holidays None = holidays
 
--- the days of March and of September, from 2020 to 2030
+-- [tse-equinox]: the days of March and of September, from 2020 to 2030
 abbrev pub vernalDays : List ℕ
 vernalDays = 20 ∷ 20 ∷ 21 ∷ 21 ∷ 20 ∷ 20 ∷ 20 ∷ 21 ∷ 20 ∷ 20 ∷ 20 ∷ []
 
 abbrev pub autumnalDays : List ℕ
 autumnalDays = 22 ∷ 23 ∷ 23 ∷ 23 ∷ 22 ∷ 23 ∷ 23 ∷ 23 ∷ 22 ∷ 23 ∷ 23 ∷ []
 
+-- calculate_vernal_equinox, calculate_autumnal_equinox: the day of the table in that month; None in other years
 unfoldable pub equinox : List ℕ → ℕ → ℕ → OptionalDay
 equinox days year month =
     cond (leb 2020 year && leb year 2030) (Day (dayNumber year month (getD days (year - 2020) 0))) None

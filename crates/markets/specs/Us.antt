@@ -8,6 +8,7 @@ use Rattle.utils.specs.Weekday.{nthWeekdayOfMonth, lastWeekdayOfMonth}
 use Rattle.utils.specs.Easter.{calculateGoodFriday}
 use Rattle.markets.specs.Days.{insert, insertIf, insertDay, matchWeekend, adjustForWeekend}
 
+-- the functions of these names in the Rust
 abbrev pub newYearsDay : ℕ → ℕ
 newYearsDay year = adjustForWeekend (dayNumber year 1 1)
 
