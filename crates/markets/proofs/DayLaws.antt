@@ -56,14 +56,16 @@ day-is r d n e = ap (λ (o : OptionalDay). isDay o n) e
 pub none-is : (r : OptionalDay) (n : ℕ) → None ≡ r → false ≡ isDay r n
 none-is r n e = ap (λ (o : OptionalDay). isDay o n) e
 
--- The arms of a `match` on the weekday: one of a weekday k, and the last.
-pub on-key : (n s t k : ℕ) → weekdayOf n ≡ k → cond (eqb k saturday) s (cond (eqb k sunday) t n) ≡ matchWeekend n s t
+-- The arms of a `match` on the weekday of d, which is day n: one of a weekday k, and the last.
+pub on-key : (f g : ℕ → ℕ) (d n k : ℕ) → weekdayOf d ≡ k → d ≡ n → cond (eqb k saturday) (f d) (cond (eqb k sunday) (g d) d) ≡ matchWeekend n (f n) (g n)
 unfolding matchWeekend
-on-key n s t k e = ap (λ (w : ℕ). cond (eqb w saturday) s (cond (eqb w sunday) t n)) (sym e)
+on-key f g d n k e q =
+    ap (λ (w : ℕ). cond (eqb w saturday) (f d) (cond (eqb w sunday) (g d) d)) (sym e) ∙ ap (λ (i : ℕ). matchWeekend i (f i) (g i)) q
 
-pub on-weekday : (n s t : ℕ) → (weekdayOf n ≡ saturday → ⊥) → (weekdayOf n ≡ sunday → ⊥) → n ≡ matchWeekend n s t
+pub on-weekday : (f g : ℕ → ℕ) (d n : ℕ) → (weekdayOf d ≡ saturday → ⊥) → (weekdayOf d ≡ sunday → ⊥) → d ≡ n → d ≡ matchWeekend n (f n) (g n)
 unfolding matchWeekend
-on-weekday n s t p q = simp (ne-eqb (weekdayOf n) saturday p, ne-eqb (weekdayOf n) sunday q)
+on-weekday f g d n p q e =
+    (simp (ne-eqb (weekdayOf d) saturday p, ne-eqb (weekdayOf d) sunday q)) ∙ on-key f g d n (weekdayOf d) refl e
 
 pub day-low : (y m d : ℕ) → d ≤ dayNumber y m d
 unfolding dayNumber

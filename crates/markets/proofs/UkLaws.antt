@@ -34,9 +34,9 @@ twice false false b = refl
 two-days : (ds : List ℕ) (x y z i j n : ℕ) → x ≡ i → y ≡ i → z ≡ j → contains (insert (insert (insert ds x) y) z) n ≡ (contains ds n || (eqb n i || eqb n j))
 two-days ds x y z i j n p q r = simp (contains-insert, p, q, r) (twice (contains ds n) (eqb n i) (eqb n j))
 
--- no move from Monday to Friday
+-- a day from Monday to Friday does not move
 stays : (n : ℕ) → (weekdayOf n ≡ saturday → ⊥) → (weekdayOf n ≡ sunday → ⊥) → adjustForWeekend n ≡ n
-stays n p q = sym (on-weekday n (n + 2) (n + 1) p q)
+stays n p q = sym (on-weekday (λ i. i + 2) (λ i. i + 1) n n p q refl)
 
 -- Boxing Day is on a weekend only after a Friday or a Saturday.
 boxing-stays : (n : ℕ) → (weekdayOf n ≡ friday → ⊥) → (weekdayOf n ≡ saturday → ⊥) → adjustForWeekend (n + 1) ≡ n + 1
@@ -51,10 +51,10 @@ two-days-of ds y n true q r ep eq er =
     simp ep (two-days ds _ _ _ (dayNumber y 12 25) (dayNumber y 12 25 + 3) n (stays _ (λ h. omega arith) (λ h. omega arith)) refl (omega (arith, d 1)))
 two-days-of ds y n false true r ep eq er =
     let d = days-on y 12 25 in
-    simp (ep, eq) (two-days ds _ _ _ (dayNumber y 12 25 + 2) (dayNumber y 12 25 + 3) n (sym (on-key _ _ _ _ (eqb-true _ saturday eq))) (d 2) (d 3))
+    simp (ep, eq) (two-days ds _ _ _ (dayNumber y 12 25 + 2) (dayNumber y 12 25 + 3) n (sym (on-key (λ i. i + 2) (λ i. i + 1) _ _ _ (eqb-true _ saturday eq) refl)) (d 2) (d 3))
 two-days-of ds y n false false true ep eq er =
     let d = days-on y 12 25 in
-    simp (ep, eq, er) (two-days ds _ _ _ (dayNumber y 12 25 + 1) (dayNumber y 12 25 + 2) n (sym (on-key _ _ _ _ (eqb-true _ sunday er))) (d 1) (d 2))
+    simp (ep, eq, er) (two-days ds _ _ _ (dayNumber y 12 25 + 1) (dayNumber y 12 25 + 2) n (sym (on-key (λ i. i + 2) (λ i. i + 1) _ _ _ (eqb-true _ sunday er) refl)) (d 1) (d 2))
 two-days-of ds y n false false false ep eq er =
     let d = days-on y 12 25 in
     let b = ap (λ (i : ℕ). adjustForWeekend i) (d 1) ∙ boxing-stays _ (eqb-false _ friday ep) (eqb-false _ saturday eq) in
