@@ -9,9 +9,9 @@ use lib.ListN.{getD, List·getD-eq-default}
 use native.Mathlib.Omega.{arith}
 use native.Mathlib.Decide.{decLt}
 use Rattle.gregorian.specs.Calendar.{total, leap, leapDay, yearLength, monthLengths, monthLength, dayNumber, lastYear, lastDay, Exists, isDate, dateOf, date, Within}
-use Rattle.gregorian.proofs.Total.{total-next, total-mono, upto}
+use Rattle.gregorian.proofs.Total.{total-next, total-mono, place-eq, upto}
 use Rattle.gregorian.proofs.Years.{years, years-is}
-use Rattle.gregorian.proofs.Laws.{is-date, unique, date-exists, number-of-date, number-high, year-of-months}
+use Rattle.gregorian.proofs.Laws.{is-date, unique, date-exists, number-of-date, number-high, year-of-months, day-of-year}
 
 leap-is : (y : ℕ) (r b : Bool) → r ≡ leap y → r ≡ b → leapDay y ≡ cond b 1 0
 unfolding leapDay
@@ -121,6 +121,19 @@ pub month-right : (y n r : ℕ) → (1 ≤ n) × (n ≤ yearLength y) → r ≡ 
 month-right y n r h e l =
     let a = months-near y (guessMonth n) (omega (arith, guess-small y n h)) in
     right (monthLength y) 12 n (guessMonth n) (in-months y n (h .1)) (omega (arith, a)) (omega arith)
+
+-- The year that has day n is the year of its date.
+pub year-part : (n y : ℕ) → 1 ≤ n → Within yearLength lastYear n y → (y ≡ dateOf n .year) × Within yearLength lastYear n y
+unfolding dayNumber
+year-part n y l w =
+    let t = dateOf n in
+    let x = date-exists n l in
+    let d = day-of-year (t .year) (t .month) (t .day) x in
+    let k = w .starts in (
+      place-eq yearLength y (n - total yearLength (y - 1)) (t .year) _ (w .low) (omega (arith, k)) (omega (arith, total-next yearLength y (w .low), w .ends)) (x .y-low) (d .0) (d .1)
+          (omega (arith, k, number-of-date n l)),
+      w,
+    )
 
 -- The parts that are found make the date, and the parts of a date its number.
 pub rest : (n y a : ℕ) → a ≡ total yearLength (y - 1) → Within yearLength lastYear n y → (1 ≤ n - a) × (n - a ≤ yearLength y)

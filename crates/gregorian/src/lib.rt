@@ -115,9 +115,9 @@ pub fn day_number(year: u32, month: u32, day: u32) -> u32
 }
 
 // By the mean length of a year, 146097 / 400 days, which gives the year's place or one too low.
-fn year_of(n: u32) -> u32
+pub fn year_of(n: u32) -> u32
     requires { ⌜ (1 ≤ n) × (n ≤ lastDay) ⌝ }
-    ensures { λ r. ⌜ Within yearLength lastYear n r ⌝ }
+    ensures { λ r. ⌜ (r ≡ dateOf n .year) × Within yearLength lastYear n r ⌝ }
 {
     let k = (n - 1) * 400 / 146097;
     if days_in_years(k + 1) < n {

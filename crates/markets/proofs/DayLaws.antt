@@ -1,20 +1,23 @@
 -- The laws of lists of days, of the day of an answer, and of the days that every year has.
 -- Assumes nothing.
-use Prim.Native.Nat.{ℕ, _≤_}
+use Prim.Native.Nat.{ℕ, _+_, _≤_}
 use mathlib.Core.Path.{_≡_, refl, ap, sym, _∙_}
 use mathlib.Core.Bool.{Bool, true, false, cond, _&&_, _||_}
 use mathlib.Core.List.{List, [], _∷_, _++_}
 use lib.Dec.{leb, eqb}
 use lib.ListN.{getD}
 use native.Mathlib.Omega.{arith}
-use borrow.Author.Tests.{leb-true, ne-eqb}
+use borrow.Author.Tests.{leb-true, le-leb, eqb-true, ne-eqb}
 use Rattle.gregorian.specs.Calendar.{saturday, sunday, weekdayOf, monthLengths, monthLength, dayNumber, lastYear, isDate}
 use Rattle.gregorian.proofs.Tests.{and-left, and-right}
 use Rattle.gregorian.proofs.Total.{upto}
-use Rattle.gregorian.proofs.Laws.{date-by}
+use Rattle.gregorian.proofs.Laws.{days-on, date-by}
 use Rattle.utils.specs.declared.OptionalDay.{OptionalDay}
 use Rattle.utils.specs.declared.OptionalDay.the-variants.{Day, None}
-use Rattle.markets.specs.Days.{contains, insert, insertIf, insertDay, isDay, matchWeekend}
+use Rattle.utils.specs.Weekday.{mapDay}
+use Rattle.utils.specs.Easter.{easter, calculateEaster}
+use Rattle.utils.proofs.EasterLaws.{easter-range, easter-found}
+use Rattle.markets.specs.Days.{contains, insert, insertIf, insertDay, isDay, isAroundEaster, matchWeekend}
 use Rattle.markets.specs.Requires.{everyYearHas}
 
 pub or-assoc : (a b c : Bool) → (a || (b || c)) ≡ (a || b || c)
@@ -55,6 +58,22 @@ day-is r d n e = ap (λ (o : OptionalDay). isDay o n) e
 
 pub none-is : (r : OptionalDay) (n : ℕ) → None ≡ r → false ≡ isDay r n
 none-is r n e = ap (λ (o : OptionalDay). isDay o n) e
+
+-- Good Friday and Easter Monday are around Easter, and so none of them is another day.
+pub around-easter : (y : ℕ) → (dayNumber y 3 20 + 2 ≤ easter y) × (easter y + 1 ≤ dayNumber y 4 26)
+around-easter y = omega (arith, easter-range y, days-on y 3 20 2, days-on y 4 25 1)
+
+pub away-from-easter : (f : ℕ → ℕ) (y n : ℕ) → (1 ≤ y) × (y ≤ lastYear) → dayNumber y 3 20 ≤ f (easter y) → f (easter y) ≤ dayNumber y 4 26 → isAroundEaster y n ≡ false → false ≡ isDay (mapDay f (calculateEaster y)) n
+away-from-easter f y n h l u e =
+    sym (ap (λ (o : OptionalDay). isDay (mapDay f o) n) (easter-found y (h .0) (h .1)) ∙ other (eqb n (f (easter y))) refl)
+  where
+    other : (b : Bool) → eqb n (f (easter y)) ≡ b → b ≡ false
+    other true q =
+        let p = eqb-true n (f (easter y)) q in
+        let a : isAroundEaster y n ≡ true =
+        simp (le-leb (dayNumber y 3 20) n (omega (arith, p, l)), le-leb n (dayNumber y 4 26) (omega (arith, p, u))) in
+        sym a ∙ e
+    other false q = refl
 
 -- The arms of a `match` on the weekday of d, which is day n: one of a weekday k, and the last.
 pub on-key : (f g : ℕ → ℕ) (d n k : ℕ) → weekdayOf d ≡ k → d ≡ n → cond (eqb k saturday) (f d) (cond (eqb k sunday) (g d) d) ≡ matchWeekend n (f n) (g n)

@@ -9,7 +9,7 @@ ghost use mathlib.Core.Bool.{true};
 ghost use Prim.Native.Nat.{_≤_};
 ghost use Rattle.gregorian.specs.Calendar.{lastYear, lastDay, dayNumber};
 ghost use Rattle.utils.specs.Easter.{calculateGoodFriday};
-ghost use Rattle.markets.specs.Days.{isDay, adjustForWeekend};
+ghost use Rattle.markets.specs.Days.{isDay, isAroundEaster, adjustForWeekend};
 ghost use Rattle.markets.specs.Requires.{everyYearHas};
 ghost use Rattle.markets.specs.Markets.{isWeekend, isHoliday, isTradingDay};
 use canada::holidays::is_canada_holiday;
@@ -62,9 +62,21 @@ fn observed(year: u32, month: u32, day: u32) -> u32
     adjust_for_weekend(fixed_day(year, month, day))
 }
 
+// From 20 March to 26 April. Easter is from 22 March to 25 April, so on other days it need not be computed.
+fn is_around_easter(year: u32, n: u32) -> bool
+    requires { ⌜ (1 ≤ year) × (year ≤ lastYear) ⌝ }
+    ensures { λ r. ⌜ r ≡ isAroundEaster year n ⌝ }
+{
+    (fixed_day(year, 3, 20) <= n) & (n <= fixed_day(year, 4, 26))
+}
+
 fn is_good_friday(year: u32, n: u32) -> bool
+    requires { ⌜ (1 ≤ year) × (year ≤ lastYear) ⌝ }
     ensures { λ r. ⌜ r ≡ isDay (calculateGoodFriday year) n ⌝ }
 {
+    if !is_around_easter(year, n) {
+        return false;
+    }
     let OptionalDay::Day(good_friday) = calculate_good_friday(year) else {
         return false;
     };
@@ -83,12 +95,12 @@ pub fn is_holiday(market: u32, n: u32) -> bool
     requires { ⌜ (1 ≤ n) × (n ≤ lastDay) ⌝ }
     ensures { λ r. ⌜ r ≡ isHoliday market n ⌝ }
 {
-    let date = gregorian::date_of(n);
+    let year = gregorian::year_of(n);
     match market {
-        NYSE | NASDAQ => is_us_holiday(date.year, n),
-        LSE => is_uk_holiday(date.year, n),
-        TSE => is_japan_holiday(date.year, n),
-        TSX => is_canada_holiday(date.year, n),
+        NYSE | NASDAQ => is_us_holiday(year, n),
+        LSE => is_uk_holiday(year, n),
+        TSE => is_japan_holiday(year, n),
+        TSX => is_canada_holiday(year, n),
         _ => false,
     }
 }

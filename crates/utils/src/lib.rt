@@ -48,7 +48,7 @@ fn if_in_month(first_day: Date, target: u32) -> OptionalDay
     }
 }
 
-// [nth-weekday]
+// [nth-weekday]. The first four are always in the month, and need no look at the target's month.
 pub fn nth_weekday_of_month(year: u32, month: u32, weekday: u32, nth: u8) -> OptionalDay
     ensures { λ r. ⌜ r ≡ nthWeekdayOfMonth year month weekday nth ⌝ }
 {
@@ -61,12 +61,16 @@ pub fn nth_weekday_of_month(year: u32, month: u32, weekday: u32, nth: u8) -> Opt
     if nth < 1 {
         return OptionalDay::None;
     }
+    let target = target_day(year, month, weekday, nth);
+    if nth < 5 {
+        return OptionalDay::Day(target);
+    }
     let first_day = Date {
         year,
         month,
         day: 1,
     };
-    if_in_month(first_day, target_day(year, month, weekday, nth))
+    if_in_month(first_day, target)
 }
 
 fn next_month(month: u32) -> u32

@@ -5,16 +5,14 @@ use mathlib.Core.List.{List}
 use native.Mathlib.Omega.{arith}
 use borrow.Author.Needs.{needs}
 use Rattle.gregorian.specs.Calendar.{dateOf}
-use Rattle.gregorian.specs.declared.Date.{Date}
 use Rattle.markets.specs.Days.{contains}
 use Rattle.markets.specs.Markets.{holidays}
 use Rattle.markets.proofs.MarketLaws.{year-range, us-market, no-market, by-code}
 use Rattle.markets.proofs.is_holiday.Statement.{statement}
 use Rattle.markets.proofs.is_holiday.Tie as tie
 
--- the year that date_of gives
-known-year : (c : tie.After-date-of) → c .date-of .result .year ≡ dateOf (c .before .args .n) .year
-known-year c = ap (λ (t : Date). t .year) (c .date-of .ensures)
+known-year : (c : tie.After-year-of) → c .year-of .result ≡ dateOf (c .before .args .n) .year
+known-year c = c .year-of .ensures .0
 
 is-uk-holiday-requires : tie.Need-is-uk-holiday-requires
 is-uk-holiday-requires c κs = year-range _ _ (c .before .before .pre) (known-year (c .before))
@@ -45,7 +43,7 @@ returns-4 c =
     let s = c .before .before .before in
     let n = s .before .args .n in
     let e = us-market (s .before .args .market) (c .before .if1 .taken) in
-    by-code _ _ _ _ _ (c .is-us-holiday .ensures ∙ ap (λ (f : ℕ → List ℕ). contains (f (s .date-of .result .year)) n) (sym e)) (known-year s) refl
+    by-code _ _ _ _ _ (c .is-us-holiday .ensures ∙ ap (λ (f : ℕ → List ℕ). contains (f (s .year-of .result)) n) (sym e)) (known-year s) refl
 
 returns-5 : tie.Need-returns-5
 returns-5 c = no-market _ _ (omega (arith, c .if1 .left, c .before .match .rest))

@@ -81,7 +81,10 @@ fn is_with_substitute(date: u32, n: u32) -> bool
     ensures { λ r. ⌜ r ≡ isWithSubstitute date n ⌝ }
 {
     let substitute = date + 1;
-    (n == date) | ((gregorian::weekday(date) == SUNDAY) & (n == substitute))
+    if n == substitute {
+        return gregorian::weekday(date) == SUNDAY;
+    }
+    n == date
 }
 
 // The equinox of the year, by its days in 2020 to 2030, or its substitute.

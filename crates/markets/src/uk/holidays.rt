@@ -7,6 +7,7 @@ ghost use Rattle.utils.specs.Easter.{calculateEasterMonday};
 ghost use Rattle.markets.specs.Days.{contains, isDay};
 ghost use Rattle.markets.specs.Uk.{isChristmasOrBoxingDay, getUkHolidays};
 use crate::fixed_day;
+use crate::is_around_easter;
 use crate::is_good_friday;
 use crate::observed;
 use gregorian::FRIDAY;
@@ -33,8 +34,12 @@ pub fn is_uk_holiday(year: u32, n: u32) -> bool
 }
 
 fn is_easter_monday(year: u32, n: u32) -> bool
+    requires { ⌜ (1 ≤ year) × (year ≤ lastYear) ⌝ }
     ensures { λ r. ⌜ r ≡ isDay (calculateEasterMonday year) n ⌝ }
 {
+    if !is_around_easter(year, n) {
+        return false;
+    }
     let OptionalDay::Day(easter_monday) = calculate_easter_monday(year) else {
         return false;
     };

@@ -6,6 +6,8 @@ use borrow.Author.Tests.{not-true, not-false, lt-leb, le-leb}
 use borrow.Author.Needs.{needs}
 use Rattle.gregorian.specs.Calendar.{isDate}
 use Rattle.utils.specs.Weekday.{ifInMonth, nthWeekdayOfMonth}
+use Rattle.utils.specs.declared.OptionalDay.the-variants.{Day}
+use Rattle.utils.proofs.WeekdayLaws.{nth-early}
 use Rattle.utils.proofs.nth_weekday_of_month.Statement.{statement}
 use Rattle.utils.proofs.nth_weekday_of_month.Tie as tie
 
@@ -28,15 +30,23 @@ returns-3 c = simp (is-month (c .before .before), le-leb _ _ (c .before .if2 .le
 target-day-requires : tie.Need-target-day-requires
 target-day-requires c κs = (is-month (c .before .before), omega arith, omega arith)
 
+-- the first four
 returns-4 : tie.Need-returns-4
-unfolding nthWeekdayOfMonth
 returns-4 c =
     let s = c .before .before in
+    let a = s .before .before .before .before .args in
+    ap Day (c .before .target-day .ensures .0)
+    ∙ sym (nth-early (a .year) (a .month) (a .weekday) (a .nth) (is-month (s .before .before)) (omega (arith, s .before .if2 .left)) (omega (arith, s .if3 .left)) (omega (arith, c .if4 .taken)))
+
+returns-5 : tie.Need-returns-5
+unfolding nthWeekdayOfMonth
+returns-5 c =
+    let s = c .before .before .before in
     simp (is-month (s .before .before), le-leb _ _ (s .before .if2 .left), le-leb 1 (s .before .before .before .before .args .nth) (omega arith))
-    (c .if-in-month .ensures ∙ ap (ifInMonth _) (c .before .target-day .ensures .0))
+    (c .if-in-month .ensures ∙ ap (ifInMonth _) (c .before .before .target-day .ensures .0))
 
 pub nth-weekday-of-month-spec : {M : Type 1} → statement M
 nth-weekday-of-month-spec =
     tie.close
-    (tie.spec (search needs) returns returns-2 returns-3 target-day-requires (search needs)
-    returns-4)
+    (tie.spec (search needs) returns returns-2 returns-3 target-day-requires returns-4 (search needs)
+    returns-5)

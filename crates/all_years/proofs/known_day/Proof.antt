@@ -1,0 +1,38 @@
+-- `all_years::known_day` meets its contract: no market, a date, and no date.
+use mathlib.Core.Path.{_≡_, ap, sym, _∙_, subst}
+use mathlib.Core.Bool.{true}
+use native.Mathlib.Omega.{arith}
+use borrow.Author.Tests.{lt-leb, le-leb}
+use borrow.Author.Needs.{needs}
+use Rattle.gregorian.specs.Calendar.{isDate}
+use Rattle.gregorian.proofs.Laws.{number-range}
+use Rattle.utils.specs.declared.OptionalDay.the-variants.{Day}
+use Rattle.all_years.specs.Answers.{knownDay}
+use Rattle.all_years.proofs.known_day.Statement.{statement}
+use Rattle.all_years.proofs.known_day.Tie as tie
+
+returns : tie.Need-returns
+unfolding knownDay
+returns c = (simp (lt-leb (c .before .args .market) 4 (omega arith)), tt)
+
+is-date : (c : tie.Then2) → (let a = c .before .before .before .args in isDate (a .year) (a .month) (a .day) ≡ true)
+is-date c = sym (c .before .is-date .ensures) ∙ c .if2 .taken
+
+day-number-requires : tie.Need-day-number-requires
+day-number-requires c κs = is-date c
+
+returns-2 : tie.Need-returns-2
+unfolding knownDay
+returns-2 c =
+    let s = c .before .before .before in
+    let a = s .before .args in
+    let e = c .day-number .ensures in
+    let r = number-range (a .year) (a .month) (a .day) (is-date (c .before)) in
+    (simp (le-leb (a .market) 4 (omega arith), is-date (c .before)) (ap Day e), (omega (arith, e, r), omega (arith, e, r)))
+
+returns-3 : tie.Need-returns-3
+unfolding knownDay
+returns-3 c = (simp (le-leb (c .before .before .before .args .market) 4 (omega arith), sym (c .before .is-date .ensures) ∙ c .if2 .left), tt)
+
+pub known-day-spec : {M : Type 1} → statement M
+known-day-spec = tie.close (tie.spec returns (search needs) day-number-requires returns-2 returns-3)
