@@ -1,6 +1,6 @@
 -- What the code's formulas and tables come to.
 -- Assumes nothing.
-use Prim.Native.Nat.{ℕ, _+_, _-_, _*_, _/_, _≤_, _<_}
+use Prim.Native.Nat.{ℕ, _+_, _-_, _*_, _/_, _%_, _≤_, _<_}
 use mathlib.Core.Path.{_≡_, ap, sym, _∙_, subst}
 use mathlib.Core.Bool.{Bool, true, false, cond}
 use mathlib.Core.List.{List, [], _∷_}
@@ -25,7 +25,7 @@ leap-small y = small (leap y)
     small true = lit≤ tt
     small false = lit≤ tt
 
--- The two tables, and what is_leap answers: r, which is b.
+-- The two formulas of the months, and what is_leap answers: r, which is b.
 pub february : (y m : ℕ) (r b : Bool) → m ≡ 2 → r ≡ leap y → r ≡ b → cond b 29 28 ≡ monthLength y m
 unfolding monthLength
 february y m r b e p q = by-leap b (leap-is y r b p q) ∙ sym (ap (monthLength y) e)
@@ -34,32 +34,29 @@ february y m r b e p q = by-leap b (leap-is y r b p q) ∙ sym (ap (monthLength 
     by-leap true d = omega arith
     by-leap false d = omega arith
 
-abbrev lengths : List ℕ
-lengths = 0 ∷ 31 ∷ 28 ∷ 31 ∷ 30 ∷ 31 ∷ 30 ∷ 31 ∷ 31 ∷ 30 ∷ 31 ∷ 30 ∷ 31 ∷ []
-
-pub other-month : (y m : ℕ) → m < 13 → (m ≡ 2 → ⊥) → getD lengths m 0 ≡ monthLength y m
+pub other-month : (y m : ℕ) → 1 ≤ m → m < 13 → (m ≡ 2 → ⊥) → 30 + (m + m / 8) % 2 ≡ monthLength y m
 unfolding monthLength
-other-month y m h = upto (λ (m : ℕ). (m ≡ 2 → ⊥) → getD lengths m 0 ≡ monthLength y m) 13 (omega arith) m h
+other-month y m l h = upto (λ (m : ℕ). 1 ≤ m → (m ≡ 2 → ⊥) → 30 + (m + m / 8) % 2 ≡ monthLength y m) 13 (omega arith) m h l
+
+pub month-0 : (y m : ℕ) → m < 1 → 0 ≡ monthLength y m
+unfolding monthLength
+month-0 y m h = upto (λ (m : ℕ). 0 ≡ monthLength y m) 1 (omega arith) m h
 
 pub no-month : (y m : ℕ) → 13 ≤ m → monthLength y m ≡ 0
 unfolding monthLength
 no-month y m h = List·getD-eq-default (monthLengths (leapDay y)) 0 h
 
-abbrev pub starts : List ℕ
-starts = 0 ∷ 31 ∷ 59 ∷ 90 ∷ 120 ∷ 151 ∷ 181 ∷ 212 ∷ 243 ∷ 273 ∷ 304 ∷ 334 ∷ 365 ∷ []
-
-pub before-march : (y k : ℕ) → k < 2 → getD starts k 0 ≡ total (monthLength y) k
+pub before-march : (y k : ℕ) → k < 2 → (367 * k + 5) / 12 ≡ total (monthLength y) k
 unfolding total monthLength
-before-march y k h = upto (λ (k : ℕ). getD starts k 0 ≡ total (monthLength y) k) 2 (omega arith) k h
+before-march y k h = upto (λ (k : ℕ). (367 * k + 5) / 12 ≡ total (monthLength y) k) 2 (omega arith) k h
 
-pub from-march : (y k : ℕ) (r b : Bool) → 2 ≤ k → k < 13 → r ≡ leap y → r ≡ b → getD starts k 0 + cond b 1 0 ≡ total (monthLength y) k
+pub from-march : (y k : ℕ) (r b : Bool) → 2 ≤ k → k < 13 → r ≡ leap y → r ≡ b → (367 * k + 5) / 12 - cond b 1 2 ≡ total (monthLength y) k
 unfolding total monthLength
-from-march y k r b l h p q =
-    let d = leap-is y r b p q in
-    upto (λ (k : ℕ). 2 ≤ k → getD starts k 0 + cond b 1 0 ≡ total (monthLength y) k) 13 (omega arith) k h l
-
-pub starts-small : (k : ℕ) → k < 13 → getD starts k 0 < 366
-starts-small k h = upto (λ (k : ℕ). getD starts k 0 < 366) 13 (omega arith) k h
+from-march y k r b l h p q = by-leap b (leap-is y r b p q)
+  where
+    by-leap : (b : Bool) → leapDay y ≡ cond b 1 0 → (367 * k + 5) / 12 - cond b 1 2 ≡ total (monthLength y) k
+    by-leap true d = upto (λ (k : ℕ). 2 ≤ k → (367 * k + 5) / 12 - 1 ≡ total (monthLength y) k) 13 (omega arith) k h l
+    by-leap false d = upto (λ (k : ℕ). 2 ≤ k → (367 * k + 5) / 12 - 2 ≡ total (monthLength y) k) 13 (omega arith) k h l
 
 -- Of a guess k that is right or one too low, a test of the sum up to the next tells which.
 below-most : (f : ℕ → ℕ) (most n k : ℕ) → n ≤ total f most → total f k < n → k < most

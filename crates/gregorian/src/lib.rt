@@ -10,12 +10,6 @@ pub const LAST_YEAR: u32 = 9999;
 // The day number of 9999-12-31.
 pub const LAST_DAY: u32 = 3652059;
 
-// The lengths of the months in a year that is not leap; there is no month 0.
-const LENGTHS: [u32; 13] = [0, 31, 28, 31, 30, 31, 30, 31, 31, 30, 31, 30, 31];
-
-// The days of the first k months in a year that is not leap.
-const STARTS: [u32; 13] = [0, 31, 59, 90, 120, 151, 181, 212, 243, 273, 304, 334, 365];
-
 // The numbers of weekdays, 0 Monday to 6 Sunday; those that are asked for by name.
 pub const MONDAY: u32 = 0;
 
@@ -53,14 +47,16 @@ pub fn is_leap(year: u32) -> bool
     }
 }
 
-// 0 where there is no such month.
+// The months but February have 31 and 30 days by turns, and anew from August on. 0 where there is no such month.
 pub fn days_in_month(year: u32, month: u32) -> u32
     ensures { λ r. ⌜ r ≡ monthLength year month ⌝ }
 {
     if month == 2 {
         if is_leap(year) { 29 } else { 28 }
+    } else if month < 1 {
+        0
     } else if month < 13 {
-        LENGTHS[month as usize]
+        30 + (month + month / 8) % 2
     } else {
         0
     }
@@ -95,16 +91,16 @@ fn days_in_years(k: u32) -> u32
     365 * k + k / 4 - k / 100 + k / 400
 }
 
-// The days of the months 1 to k.
+// The days of the months 1 to k: 367 / 12 a month as if February had 30, and the days that it lacks.
 fn days_in_months(year: u32, k: u32) -> u32
     requires { ⌜ k ≤ 12 ⌝ }
     ensures { λ r. ⌜ r ≡ total (monthLength year) k ⌝ }
 {
-    let days = STARTS[k as usize];
+    let days = (367 * k + 5) / 12;
     if k < 2 {
         return days;
     }
-    if is_leap(year) { days + 1 } else { days }
+    if is_leap(year) { days - 1 } else { days - 2 }
 }
 
 pub fn day_number(year: u32, month: u32, day: u32) -> u32
