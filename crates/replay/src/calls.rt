@@ -1,5 +1,6 @@
 // The kinds of calls that rows store: the name of each, and the library's answer to its inputs. A new kind is a number
-// here, a name, how many inputs it takes, and a call of the library in `answer`.
+// here, a name, how many inputs it takes, and a call of the library in `answer`. Kinds in the plural list days.
+use crate::lists;
 use crate::name::Name;
 use crate::numbers::Numbers;
 use trading_calendar::BoolAnswer;
@@ -26,8 +27,14 @@ pub const IS_TRADING_DAY: usize = 5;
 
 pub const IS_HOLIDAY: usize = 6;
 
+pub const HOLIDAYS: usize = 7;
+
+pub const HOLIDAYS_ANY_YEAR: usize = 8;
+
+pub const TRADING_DAYS: usize = 9;
+
 // How many kinds there are. Where a kind is asked for, it says that there is none.
-pub const KINDS: usize = 7;
+pub const KINDS: usize = 10;
 
 pub fn name(kind: usize) -> Name {
     match kind {
@@ -38,6 +45,9 @@ pub fn name(kind: usize) -> Name {
         CALCULATE_EASTER_MONDAY => Name::of(b"calculate_easter_monday"),
         IS_TRADING_DAY => Name::of(b"is_trading_day"),
         IS_HOLIDAY => Name::of(b"is_holiday"),
+        HOLIDAYS => Name::of(b"holidays"),
+        HOLIDAYS_ANY_YEAR => Name::of(b"holidays_any_year"),
+        TRADING_DAYS => Name::of(b"trading_days"),
         _ => Name::new(),
     }
 }
@@ -58,13 +68,23 @@ pub fn kind_of(text: Name) -> usize {
 fn input_count(kind: usize) -> usize {
     match kind {
         NTH_WEEKDAY_OF_MONTH | IS_TRADING_DAY | IS_HOLIDAY => 4,
-        LAST_WEEKDAY_OF_MONTH => 3,
+        LAST_WEEKDAY_OF_MONTH | TRADING_DAYS => 3,
+        HOLIDAYS | HOLIDAYS_ANY_YEAR => 2,
         CALCULATE_EASTER | CALCULATE_GOOD_FRIDAY | CALCULATE_EASTER_MONDAY => 1,
         _ => 0,
     }
 }
 
-// The numbers of the library's answer. None where the kind takes no such inputs: every answer has a number.
+// Whether the answers of the kind are days, as many as there are, and not the fields of a struct.
+pub fn is_list(kind: usize) -> bool {
+    match kind {
+        HOLIDAYS | HOLIDAYS_ANY_YEAR | TRADING_DAYS => true,
+        _ => false,
+    }
+}
+
+// The numbers of the library's answer. None where the kind takes no such inputs: every answer of a call has a number, and no
+// list that is stored is empty.
 pub fn answer(kind: usize, inputs: Numbers) -> Numbers {
     let v = inputs.values;
     if inputs.count != input_count(kind) {
@@ -78,6 +98,9 @@ pub fn answer(kind: usize, inputs: Numbers) -> Numbers {
         CALCULATE_EASTER_MONDAY => optional_date(tc_calculate_easter_monday(v[0])),
         IS_TRADING_DAY => bool_answer(tc_is_trading_day(v[0], v[1], v[2], v[3])),
         IS_HOLIDAY => bool_answer(tc_is_holiday(v[0], v[1], v[2], v[3])),
+        HOLIDAYS => lists::holidays(false, v[0], v[1]),
+        HOLIDAYS_ANY_YEAR => lists::holidays(true, v[0], v[1]),
+        TRADING_DAYS => lists::trading_days(v[0], v[1], v[2]),
         _ => Numbers::new(),
     }
 }

@@ -1,5 +1,6 @@
 // Compares stored answers with those of the library, and prints how many rows it compared and how many differ.
 mod calls;
+mod lists;
 mod name;
 mod numbers;
 mod reader;

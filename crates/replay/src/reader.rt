@@ -104,8 +104,8 @@ fn refuse(tally: Tally) -> Tally {
     tally.count_not_understood()
 }
 
-// Compares the row's answers with the library's. A row whose call gives no answer, or not as many numbers as the row
-// has, is not understood.
+// Compares the row's answers with the library's. A row whose call gives no answer, or not as many fields as the row has, is
+// not understood; a list of days can be longer or shorter than that of the row.
 fn compare(tally: Tally, row: Row) -> Tally {
     let kind = row.kind();
     let inputs = row.inputs;
@@ -114,8 +114,10 @@ fn compare(tally: Tally, row: Row) -> Tally {
     if answer.count == 0 {
         return refuse(tally);
     }
-    if answer.count != stored.count {
-        return refuse(tally);
+    if !calls::is_list(kind) {
+        if answer.count != stored.count {
+            return refuse(tally);
+        }
     }
     let is_same = numbers::same(answer, stored);
     if !is_same {

@@ -1,0 +1,113 @@
+//! Where the time of the original goes: parts of its is_trading_day alone, on the same dates.
+
+use crate::bench::ask_original;
+use crate::original::{calendars, MARKETS};
+use crate::times::{mean, Days, Times, ROUNDS};
+use crate::ANSWERED_YEARS;
+use chrono::{Datelike, NaiveDate};
+use std::collections::HashSet;
+use std::hint::black_box;
+use trading_calendar::markets::canada::holidays::get_canada_holidays;
+use trading_calendar::markets::japan::holidays::get_japan_holidays;
+use trading_calendar::markets::uk::holidays::get_uk_holidays;
+use trading_calendar::markets::us::holidays::get_us_holidays;
+use trading_calendar::utils::HolidayCache;
+use trading_calendar::{Market, TradingCalendar};
+
+const NAMES: [&str; 5] = [
+    "the whole call",
+    "`HolidayCache::get_or_compute`: lock, look up, clone the year's set, and drop the clone",
+    "of that, cloning the year's `HashSet` and dropping the clone",
+    "of that, locking and unlocking, by `HolidayCache::len`",
+    "`HashSet::contains`",
+];
+
+pub fn run(days: &Days) {
+    let markets: Vec<Parts> = calendars()
+        .into_iter()
+        .zip(MARKETS)
+        .map(Parts::new)
+        .collect();
+    let mut times = vec![vec![Times::default(); 5]; NAMES.len()];
+    for _ in 0..ROUNDS {
+        for (index, parts) in markets.iter().enumerate() {
+            ask_original(&mut times[0][index], &parts.calendar, days);
+            parts.cached(&mut times[1][index], days);
+            parts.cloned(&mut times[2][index], days);
+            parts.locked(&mut times[3][index], days);
+            parts.contained(&mut times[4][index], days);
+        }
+    }
+    println!("\nParts of the original, each measured alone, mean of the markets:\n");
+    println!("| Part | ns, median | least | Share of the whole, least |");
+    println!("|---|---|---|---|");
+    let whole = mean(&times[0], Times::least);
+    for (name, times) in NAMES.iter().zip(&times) {
+        let (median, least) = (mean(times, Times::median), mean(times, Times::least));
+        let share = 100.0 * least / whole;
+        println!("| {name} | {median:.1} | {least:.1} | {share:.0} % |");
+    }
+}
+
+/// The parts of a market's calendar, each with all its years.
+struct Parts {
+    calendar: TradingCalendar,
+    cache: HolidayCache,
+    sets: Vec<HashSet<NaiveDate>>,
+}
+
+impl Parts {
+    fn new((calendar, market): (TradingCalendar, Market)) -> Parts {
+        let years = ANSWERED_YEARS.map(|year| year as i32);
+        let sets: Vec<_> = years.clone().map(|year| holidays(market, year)).collect();
+        let cache = HolidayCache::default();
+        for (year, set) in years.zip(&sets) {
+            cache.insert(year, set.clone());
+        }
+        Parts {
+            calendar,
+            cache,
+            sets,
+        }
+    }
+
+    fn set_of(&self, date: NaiveDate) -> &HashSet<NaiveDate> {
+        &self.sets[(date.year() - *ANSWERED_YEARS.start() as i32) as usize]
+    }
+
+    fn cached(&self, times: &mut Times, days: &Days) {
+        times.measure(days, |(_, date)| {
+            let compute = || unreachable!("every year is in the cache");
+            let year = black_box(*date).year();
+            black_box(self.cache.get_or_compute(year, compute));
+        });
+    }
+
+    fn cloned(&self, times: &mut Times, days: &Days) {
+        times.measure(days, |(_, date)| {
+            black_box(self.set_of(black_box(*date)).clone());
+        });
+    }
+
+    fn locked(&self, times: &mut Times, days: &Days) {
+        times.measure(days, |_| {
+            black_box(black_box(&self.cache).len());
+        });
+    }
+
+    fn contained(&self, times: &mut Times, days: &Days) {
+        times.measure(days, |(_, date)| {
+            let date = black_box(*date);
+            black_box(self.set_of(date).contains(&date));
+        });
+    }
+}
+
+fn holidays(market: Market, year: i32) -> HashSet<NaiveDate> {
+    match market {
+        Market::NYSE | Market::NASDAQ => get_us_holidays(year),
+        Market::LSE => get_uk_holidays(year),
+        Market::TSE => get_japan_holidays(year),
+        Market::TSX => get_canada_holidays(year),
+    }
+}

@@ -1,0 +1,140 @@
+//! Every input that both sides answer: the answers are the same.
+
+use crate::library::*;
+use crate::original::{self, days_of, of_result};
+use crate::tally::Tally;
+use crate::{added, ANSWERED_YEARS, LAST_YEAR, YEARS};
+use chrono::NaiveDate;
+use trading_calendar::{Result, TradingCalendar};
+
+const MARKETS: u64 = 5;
+/// Days of the years 1 to 9999, and of 2020 to 2030.
+const ALL_DAYS: u64 = 3_652_059;
+const ANSWERED_DAYS: u64 = 4018;
+
+/// Whether all is right.
+pub fn run() -> bool {
+    println!("Inputs that both answer:");
+    let both = [
+        easters(),
+        last_weekdays(),
+        nth_weekdays(),
+        wrappers(
+            "is_holiday",
+            |market, date| tc_is_holiday(market, date.year, date.month, date.day),
+            TradingCalendar::is_holiday,
+        ),
+        wrappers(
+            "is_trading_day",
+            |market, date| tc_is_trading_day(market, date.year, date.month, date.day),
+            TradingCalendar::is_trading_day,
+        ),
+        implementations(),
+    ];
+    let added = added::run();
+    both.into_iter().all(|right| right) && added
+}
+
+fn easters() -> bool {
+    let mut sundays = Tally::new("calculate_easter");
+    let mut fridays = Tally::new("calculate_good_friday");
+    let mut mondays = Tally::new("calculate_easter_monday");
+    for year in YEARS {
+        let input = &[year];
+        sundays.compare(input, tc_calculate_easter(year), original::easter(year));
+        fridays.compare(
+            input,
+            tc_calculate_good_friday(year),
+            original::good_friday(year),
+        );
+        mondays.compare(
+            input,
+            tc_calculate_easter_monday(year),
+            original::easter_monday(year),
+        );
+    }
+    let years = YEARS.count() as u64;
+    sundays.close(years) & fridays.close(years) & mondays.close(years)
+}
+
+/// Every month and weekday in order.
+fn months_and_weekdays() -> impl Iterator<Item = (u32, u32, u32)> {
+    YEARS.flat_map(|year| {
+        (1..=12).flat_map(move |month| (0..=6).map(move |weekday| (year, month, weekday)))
+    })
+}
+
+/// But for December 9999, which has an added answer.
+fn last_weekdays() -> bool {
+    let mut tally = Tally::new("last_weekday_of_month");
+    for (year, month, weekday) in months_and_weekdays() {
+        if (year, month) == (LAST_YEAR, 12) {
+            continue;
+        }
+        let library = tc_last_weekday_of_month(year, month, weekday);
+        let original = original::last_weekday_of_month(year, month, weekday);
+        tally.compare(&[year, month, weekday], library, original);
+    }
+    tally.close((YEARS.count() * 12 - 1) as u64 * 7)
+}
+
+/// Every n from 1 to 255, but where the original answers a day past 9999-12-31.
+fn nth_weekdays() -> bool {
+    let mut tally = Tally::new("nth_weekday_of_month");
+    for (year, month, weekday) in months_and_weekdays() {
+        for nth in 1..=255 {
+            let original = original::nth_weekday_of_month(year, month, weekday, nth);
+            if original.date.year > LAST_YEAR {
+                continue;
+            }
+            let library = tc_nth_weekday_of_month(year, month, weekday, nth);
+            tally.compare(&[year, month, weekday, u32::from(nth)], library, original);
+        }
+    }
+    let left_out = added::nth_past_the_last_day().count();
+    tally.close((YEARS.count() * 12 * 7 * 255 - left_out) as u64)
+}
+
+/// The calls of TradingCalendar: every market, every day of the years 1 to 9999.
+fn wrappers(
+    name: &str,
+    library: impl Fn(u32, Date) -> BoolResult,
+    original: impl Fn(&TradingCalendar, NaiveDate) -> Result<bool>,
+) -> bool {
+    let calendars = original::calendars();
+    let mut inside = Tally::new(format!("{name}, years 2020 to 2030"));
+    let mut outside = Tally::new(format!("{name}, error 1 in the other years"));
+    for (market, calendar) in (0..).zip(&calendars) {
+        for (date, naive) in YEARS.flat_map(days_of) {
+            let tally = if ANSWERED_YEARS.contains(&date.year) {
+                &mut inside
+            } else {
+                &mut outside
+            };
+            let due = of_result(original(calendar, naive));
+            let input = [market, date.year, date.month, date.day];
+            tally.compare(&input, library(market, date), due);
+        }
+    }
+    inside.close(MARKETS * ANSWERED_DAYS) & outside.close(MARKETS * (ALL_DAYS - ANSWERED_DAYS))
+}
+
+/// What stands behind these calls, without the limits of years.
+fn implementations() -> bool {
+    let mut holidays = Tally::new("is_holiday, any year, no error 1");
+    let mut trading_days = Tally::new("is_trading_day, any year, no error 1");
+    for (market, original) in (0..).zip(&original::implementations()) {
+        for (Date { year, month, day }, naive) in YEARS.flat_map(days_of) {
+            let input = &[market, year, month, day];
+            let holiday = all_years_is_holiday(market, year, month, day);
+            holidays.compare(input, holiday, u32::from(original.is_holiday(naive)));
+            let trading_day = all_years_is_trading_day(market, year, month, day);
+            trading_days.compare(
+                input,
+                trading_day,
+                u32::from(original.is_trading_day(naive)),
+            );
+        }
+    }
+    holidays.close(MARKETS * ALL_DAYS) & trading_days.close(MARKETS * ALL_DAYS)
+}

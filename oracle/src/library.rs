@@ -1,0 +1,44 @@
+//! The calls of the library as include/trading_calendar.h has them, and those of all_years, which know no limits of years.
+
+#[repr(C)]
+#[derive(Clone, Copy, Debug, Default, PartialEq, Eq)]
+pub struct Date {
+    pub year: u32,
+    pub month: u32,
+    pub day: u32,
+}
+
+#[repr(C)]
+#[derive(Clone, Copy, Debug, Default, PartialEq, Eq)]
+pub struct OptionalDate {
+    pub found: u32,
+    pub date: Date,
+}
+
+#[repr(C)]
+#[derive(Clone, Copy, Debug, Default, PartialEq, Eq)]
+pub struct BoolResult {
+    pub error: u32,
+    pub value: u32,
+    pub date: Date,
+}
+
+// Safe, since every call takes any numbers at all.
+unsafe extern "C" {
+    pub safe fn tc_nth_weekday_of_month(
+        year: u32,
+        month: u32,
+        weekday: u32,
+        nth: u8,
+    ) -> OptionalDate;
+    pub safe fn tc_last_weekday_of_month(year: u32, month: u32, weekday: u32) -> OptionalDate;
+    pub safe fn tc_calculate_easter(year: u32) -> OptionalDate;
+    pub safe fn tc_calculate_good_friday(year: u32) -> OptionalDate;
+    pub safe fn tc_calculate_easter_monday(year: u32) -> OptionalDate;
+    pub safe fn tc_is_trading_day(market: u32, year: u32, month: u32, day: u32) -> BoolResult;
+    pub safe fn tc_is_holiday(market: u32, year: u32, month: u32, day: u32) -> BoolResult;
+
+    /// 1 yes, 0 no, 2 if there is no such market or no such date.
+    pub safe fn all_years_is_trading_day(market: u32, year: u32, month: u32, day: u32) -> u32;
+    pub safe fn all_years_is_holiday(market: u32, year: u32, month: u32, day: u32) -> u32;
+}

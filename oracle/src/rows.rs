@@ -1,0 +1,189 @@
+//! Answers of the original as rows for crates/replay/data/holidays.txt, to standard output.
+
+use crate::library::{BoolResult, Date};
+use crate::original::{calendars, days_of, implementations, of_result};
+use crate::row_inputs::{months, other_years, Day, EDGES, EXAMPLES, HEAD, NAMES, OWN_RULES};
+use crate::ANSWERED_YEARS;
+use chrono::NaiveDate;
+use std::io::{self, BufWriter, Write};
+use trading_calendar::markets::MarketImpl;
+use trading_calendar::{Result, TradingCalendar};
+
+pub fn run() -> io::Result<()> {
+    let mut rows = Rows {
+        out: BufWriter::new(io::stdout().lock()),
+        calendars: calendars(),
+        implementations: implementations(),
+    };
+    write!(rows.out, "{HEAD}")?;
+    rows.holidays()?;
+    rows.holidays_any_year()?;
+    rows.trading_days()?;
+    rows.days("is_holiday", TradingCalendar::is_holiday)?;
+    rows.days("is_trading_day", TradingCalendar::is_trading_day)?;
+    rows.wrong_on_purpose()?;
+    rows.out.flush()
+}
+
+struct Rows<Out: Write> {
+    out: Out,
+    calendars: [TradingCalendar; 5],
+    implementations: [Box<dyn MarketImpl>; 5],
+}
+
+impl<Out: Write> Rows<Out> {
+    /// Every market, every year with answers.
+    fn holidays(&mut self) -> io::Result<()> {
+        for market in 0..5 {
+            let name = NAMES[market as usize];
+            self.heading(&format!("{name}: the holidays of the years 2020 to 2030"))?;
+            for year in ANSWERED_YEARS {
+                let days = self.holidays_of(market, year);
+                self.row("holidays", &[market, year], &days)?;
+            }
+        }
+        Ok(())
+    }
+
+    /// NASDAQ has the rules of NYSE and is left out.
+    fn holidays_any_year(&mut self) -> io::Result<()> {
+        for market in [0, 2, 3, 4] {
+            let name = NAMES[market as usize];
+            self.heading(&format!("{name}: the holidays of other years"))?;
+            for year in other_years() {
+                let days = self.holidays_of_any_year(market, year);
+                self.row("holidays_any_year", &[market, year], &days)?;
+            }
+        }
+        Ok(())
+    }
+
+    fn trading_days(&mut self) -> io::Result<()> {
+        for market in 0..5 {
+            let name = NAMES[market as usize];
+            self.heading(&format!("{name}: the trading days of some months"))?;
+            for year in ANSWERED_YEARS {
+                for &month in months(market) {
+                    let days = self.trading_days_of(market, year, month);
+                    self.row("trading_days", &[market, year, month], &days)?;
+                }
+            }
+        }
+        Ok(())
+    }
+
+    /// Single dates, for is_holiday or is_trading_day.
+    fn days(
+        &mut self,
+        name: &str,
+        ask: fn(&TradingCalendar, NaiveDate) -> Result<bool>,
+    ) -> io::Result<()> {
+        self.heading(&format!("{name}: examples of docs/SCOPE.md"))?;
+        for day in EXAMPLES {
+            self.day(name, day, ask)?;
+        }
+        self.heading(&format!(
+            "{name}: around the years 2020 and 2030, far outside, and leap days"
+        ))?;
+        for market in 0..5 {
+            for [year, month, day] in EDGES {
+                self.day(name, [market, year, month, day], ask)?;
+            }
+        }
+        for (error, about, days) in OWN_RULES {
+            self.heading(&format!(
+                "{name}, a rule that the original does not have: error {error}, {about}"
+            ))?;
+            for day in days {
+                self.row(name, day, &[error, 0, 0, 0, 0])?;
+            }
+        }
+        Ok(())
+    }
+
+    /// What the original answers for a date.
+    fn day(
+        &mut self,
+        name: &str,
+        input: Day,
+        ask: fn(&TradingCalendar, NaiveDate) -> Result<bool>,
+    ) -> io::Result<()> {
+        let [market, year, month, day] = input;
+        let date = NaiveDate::from_ymd_opt(year as i32, month, day).expect("a date");
+        let BoolResult { error, value, date } =
+            of_result(ask(&self.calendars[market as usize], date));
+        self.row(
+            name,
+            &input,
+            &[error, value, date.year, date.month, date.day],
+        )
+    }
+
+    /// One row of each kind.
+    fn wrong_on_purpose(&mut self) -> io::Result<()> {
+        self.heading("wrong on purpose: NYSE also has 103, as 1 January 2022 is a Saturday")?;
+        let mut days = self.holidays_of(0, 2022);
+        days.retain(|&day| day != 103);
+        self.row("holidays", &[0, 2022], &days)?;
+
+        self.heading(
+            "wrong on purpose: TSX has no 219, as its holiday in February begins with 2008",
+        )?;
+        let mut days = self.holidays_of_any_year(4, 2007);
+        days.insert(1, 219);
+        self.row("holidays_any_year", &[4, 2007], &days)?;
+
+        self.heading("wrong on purpose: TSX also trades on 27 December 2022")?;
+        let mut days = self.trading_days_of(4, 2022, 12);
+        days.retain(|&day| day != 27);
+        self.row("trading_days", &[4, 2022, 12], &days)?;
+
+        self.heading("wrong on purpose: 4 January 2021 is a holiday of TSE")?;
+        self.row("is_holiday", &[3, 2021, 1, 4], &[0, 0, 0, 0, 0])?;
+
+        self.heading("wrong on purpose: 28 December 2021 is no trading day of LSE")?;
+        self.row("is_trading_day", &[2, 2021, 12, 28], &[0, 1, 0, 0, 0])
+    }
+
+    fn holidays_of(&self, market: u32, year: u32) -> Vec<u32> {
+        let calendar = &self.calendars[market as usize];
+        let is_holiday = |date| calendar.is_holiday(date).expect("a year with answers");
+        month_days(year, is_holiday)
+    }
+
+    fn holidays_of_any_year(&self, market: u32, year: u32) -> Vec<u32> {
+        let implementation = &self.implementations[market as usize];
+        month_days(year, |date| implementation.is_holiday(date))
+    }
+
+    fn trading_days_of(&self, market: u32, year: u32, month: u32) -> Vec<u32> {
+        let calendar = &self.calendars[market as usize];
+        let is_trading_day = |date| calendar.is_trading_day(date).expect("a year with answers");
+        let of_month = days_of(year).filter(|(date, _)| date.month == month);
+        let trading = of_month.filter(|&(_, naive)| is_trading_day(naive));
+        trading.map(|(date, _)| date.day).collect()
+    }
+
+    fn heading(&mut self, text: &str) -> io::Result<()> {
+        writeln!(self.out, "\n# {text}")
+    }
+
+    fn row(&mut self, name: &str, input: &[u32], answer: &[u32]) -> io::Result<()> {
+        write!(self.out, "{name}")?;
+        for number in input {
+            write!(self.out, " {number}")?;
+        }
+        write!(self.out, " =")?;
+        for number in answer {
+            write!(self.out, " {number}")?;
+        }
+        writeln!(self.out)
+    }
+}
+
+/// The days of the year for which it holds, each as month * 100 + day.
+fn month_days(year: u32, holds: impl Fn(NaiveDate) -> bool) -> Vec<u32> {
+    let days = days_of(year).filter(|&(_, naive)| holds(naive));
+    days.map(|(Date { month, day, .. }, _)| month * 100 + day)
+        .collect()
+}

@@ -1,0 +1,209 @@
+//! Dates, as cheap to ask as chrono's: one integer, from which year, month, day and weekday are read by a shift.
+
+use crate::{day_number, Duration, NaiveDateTime, NaiveTime, Weekday};
+use std::fmt;
+use std::ops::{Add, AddAssign, Sub, SubAssign};
+
+/// The years that chrono has.
+const YEARS: std::ops::RangeInclusive<i32> = -262143..=262142;
+
+const YEAR_SHIFT: u32 = 12;
+const MONTH_SHIFT: u32 = 8;
+const DAY_SHIFT: u32 = 3;
+
+/// From the high bits down: year, month (4 bits), day (5 bits), weekday (3 bits). So integers are ordered as dates are.
+#[derive(Clone, Copy, PartialEq, Eq, PartialOrd, Ord, Hash)]
+pub struct NaiveDate(i32);
+
+pub trait Datelike {
+    fn year(&self) -> i32;
+    fn month(&self) -> u32;
+    fn day(&self) -> u32;
+    fn weekday(&self) -> Weekday;
+}
+
+impl NaiveDate {
+    /// None if there is no such date.
+    pub fn from_ymd_opt(year: i32, month: u32, day: u32) -> Option<NaiveDate> {
+        let exists = YEARS.contains(&year)
+            && (1..=12).contains(&month)
+            && (1..=day_number::month_length(year, month)).contains(&day);
+        exists.then(|| pack(year, month, day, day_number::of_date(year, month, day)))
+    }
+
+    /// Panics, as chrono does, if the date is past the years that there are.
+    fn moved(self, days: i64) -> NaiveDate {
+        let start = day_number::of_date(self.year(), self.month(), self.day());
+        let number = i32::try_from(i64::from(start) + days).expect("a day number");
+        let (year, month, day) = day_number::to_date(number);
+        assert!(YEARS.contains(&year), "the date is out of range");
+        pack(year, month, day, number)
+    }
+
+    pub fn and_time(self, time: NaiveTime) -> NaiveDateTime {
+        NaiveDateTime { date: self, time }
+    }
+}
+
+/// Day number 0 is a Monday.
+fn pack(year: i32, month: u32, day: u32, number: i32) -> NaiveDate {
+    let weekday = number.rem_euclid(7);
+    NaiveDate(
+        year << YEAR_SHIFT | (month << MONTH_SHIFT) as i32 | (day << DAY_SHIFT) as i32 | weekday,
+    )
+}
+
+impl Datelike for NaiveDate {
+    #[inline]
+    fn year(&self) -> i32 {
+        self.0 >> YEAR_SHIFT
+    }
+
+    #[inline]
+    fn month(&self) -> u32 {
+        self.0 as u32 >> MONTH_SHIFT & 0xF
+    }
+
+    #[inline]
+    fn day(&self) -> u32 {
+        self.0 as u32 >> DAY_SHIFT & 0x1F
+    }
+
+    #[inline]
+    fn weekday(&self) -> Weekday {
+        match self.0 & 0x7 {
+            0 => Weekday::Mon,
+            1 => Weekday::Tue,
+            2 => Weekday::Wed,
+            3 => Weekday::Thu,
+            4 => Weekday::Fri,
+            5 => Weekday::Sat,
+            _ => Weekday::Sun,
+        }
+    }
+}
+
+impl Add<Duration> for NaiveDate {
+    type Output = NaiveDate;
+
+    fn add(self, duration: Duration) -> NaiveDate {
+        self.moved(duration.num_days())
+    }
+}
+
+impl Sub<Duration> for NaiveDate {
+    type Output = NaiveDate;
+
+    fn sub(self, duration: Duration) -> NaiveDate {
+        self.moved(-duration.num_days())
+    }
+}
+
+impl AddAssign<Duration> for NaiveDate {
+    fn add_assign(&mut self, duration: Duration) {
+        *self = *self + duration;
+    }
+}
+
+impl SubAssign<Duration> for NaiveDate {
+    fn sub_assign(&mut self, duration: Duration) {
+        *self = *self - duration;
+    }
+}
+
+/// 1970-01-01, as in chrono.
+impl Default for NaiveDate {
+    fn default() -> NaiveDate {
+        NaiveDate::from_ymd_opt(1970, 1, 1).expect("a date")
+    }
+}
+
+impl fmt::Display for NaiveDate {
+    fn fmt(&self, f: &mut fmt::Formatter<'_>) -> fmt::Result {
+        write!(
+            f,
+            "{:04}-{:02}-{:02}",
+            self.year(),
+            self.month(),
+            self.day()
+        )
+    }
+}
+
+impl fmt::Debug for NaiveDate {
+    fn fmt(&self, f: &mut fmt::Formatter<'_>) -> fmt::Result {
+        fmt::Display::fmt(self, f)
+    }
+}
+
+#[cfg(test)]
+mod tests {
+    use super::*;
+
+    fn date(year: i32, month: u32, day: u32) -> NaiveDate {
+        NaiveDate::from_ymd_opt(year, month, day).expect("a date")
+    }
+
+    #[test]
+    fn monday_2001_01_01() {
+        assert_eq!(date(2001, 1, 1).weekday(), Weekday::Mon);
+        assert_eq!(date(2000, 12, 31).weekday(), Weekday::Sun);
+        assert_eq!(date(2024, 2, 29).weekday(), Weekday::Thu);
+    }
+
+    #[test]
+    fn no_such_date() {
+        let none = [
+            (2023, 2, 29),
+            (1900, 2, 29),
+            (2024, 2, 30),
+            (2024, 4, 31),
+            (2024, 0, 1),
+            (2024, 13, 1),
+            (2024, 1, 0),
+            (2024, u32::MAX, 1),
+            (2024, 1, u32::MAX),
+            (262143, 1, 1),
+            (-262144, 12, 31),
+        ];
+        for (year, month, day) in none {
+            assert_eq!(NaiveDate::from_ymd_opt(year, month, day), None);
+        }
+    }
+
+    #[test]
+    fn parts_are_read_back() {
+        for year in [-262143, -9999, -1, 0, 1, 2024, 9999, 10001, 262142] {
+            let it = date(year, 12, 31);
+            assert_eq!((it.year(), it.month(), it.day()), (year, 12, 31));
+        }
+        assert_eq!(date(33, 4, 3).to_string(), "0033-04-03");
+        assert_eq!(NaiveDate::default().to_string(), "1970-01-01");
+    }
+
+    /// Over all days of the years 1 to 9999: the next day is later, has the next weekday, and leads back.
+    #[test]
+    fn a_day_forth_and_back() {
+        let mut today = date(1, 1, 1);
+        let mut days = 1;
+        while today != date(9999, 12, 31) {
+            let next = today + Duration::days(1);
+            assert!(next > today);
+            assert_eq!(next.weekday() as u32, (today.weekday() as u32 + 1) % 7);
+            assert_eq!(next - Duration::days(1), today);
+            assert_eq!(date(next.year(), next.month(), next.day()), next);
+            today = next;
+            days += 1;
+        }
+        assert_eq!(days, 3_652_059);
+    }
+
+    #[test]
+    fn weeks_keep_the_weekday() {
+        let mut moved = date(2019, 1, 7);
+        moved += Duration::weeks(52);
+        assert_eq!((moved, moved.weekday()), (date(2020, 1, 6), Weekday::Mon));
+        moved -= Duration::weeks(52);
+        assert_eq!(moved, date(2019, 1, 7));
+    }
+}
