@@ -113,22 +113,25 @@ pub const OWN_RULES: [(u32, &str, &[Day]); 4] = [
     ),
 ];
 
-/// Years outside 2020 to 2030 whose holidays are listed: around the limits of years and of rules, and every 47th.
+/// Years outside 2020 to 2030 whose holidays are listed: around the limits of years and of rules, those of the dates in
+/// docs/DIFFERENCES.md, and every 53rd.
 pub fn other_years() -> BTreeSet<u32> {
     let centuries = [
         100, 200, 300, 400, 1600, 1700, 1800, 1900, 2100, 2200, 2300, 2400,
     ];
-    let single = [1582, 1583, 1752, 1818, 1873, 1943, 1948, 1970];
+    let single = [
+        1582, 1583, 1752, 1818, 1873, 1886, 1907, 1914, 1933, 1934, 1943, 1948, 1953,
+    ];
     let mut years = BTreeSet::from_iter(centuries.into_iter().chain(single));
     years.extend(
         (1..=5)
-            .chain(1980..=2019)
+            .chain(1960..=2019)
             .chain(2031..=2060)
             .chain(9996..=9999),
     );
     years.extend(
-        (47..=9999)
-            .step_by(47)
+        (53..=9999)
+            .step_by(53)
             .filter(|year| !ANSWERED_YEARS.contains(year)),
     );
     years
