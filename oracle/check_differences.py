@@ -5,9 +5,13 @@ usage: check_differences.py [REPOSITORY [PAGE]]
 
 A line of a table has: date, weekday, what the document says, what the answer is here, the document, the programs that confirm
 it. "Document says" and "here" begin with the answer: trades, closed, holiday or no holiday. A line of the table of other years
-begins with the market; there the programs that say otherwise follow after "not".
-A program that is not installed, or not in the version that the page names, is reported as not compared. Exit status 1 means
-that a line is wrong, that a "Confirmed by" is wrong, or that a program differs on a day that no line and no gap explains.
+begins with the market; there the programs that say otherwise follow after "not". Words after an answer's colon are not read.
+A program that is not installed, or not in the version that the page names, is reported as not compared. Beside the programs stand
+"rules", the public rules computed here for 2020 to 2030; LSE's proclaimed days and the moved holidays of the Tokyo Games are data
+there, so that for these lines it is no second derivation.
+Exit status 1 means that something is wrong, each told by a line "WRONG": a table that is missing, a line with a wrong date,
+weekday, answer here, document or "Confirmed by", a program that differs on a day that no line and no gap explains, a gap that is
+none, or that no program was compared.
 """
 import re
 import shutil
@@ -30,7 +34,6 @@ MARKETS = ["NYSE", "NASDAQ", "LSE", "TSE", "TSX"]
 DATE_TABLES = {"NYSE and NASDAQ": ["NYSE", "NASDAQ"], "LSE": ["LSE"], "TSE": ["TSE"], "TSX": ["TSX"]}
 WEEKEND_TABLES = {"TSE, weekends": ["TSE"]}
 OTHER_YEARS = "Other years, by date"
-NO_SOURCE = "no source here"
 
 
 def days(text):
@@ -55,7 +58,7 @@ GAPS = {
     # of 2020: not the moves of 2021, and no substitute of 23 February
     ("H10", "TSE"): SUSPENSION | days(
         "2021-07-19 2021-07-22 2021-07-23 2021-08-08 2021-08-09 2021-08-11 2021-10-11 2025-02-24"),
-    # the rules below are without single closings
+    # of single closings, the rules below have LSE's alone
     ("rules", "NYSE"): days("2025-01-09"),
     ("rules", "NASDAQ"): days("2025-01-09"),
     ("rules", "TSE"): SUSPENSION,
@@ -93,8 +96,8 @@ def quantlib(years):
         "TSE": ql.Japan(),
         "TSX": ql.Canada(ql.Canada.TSX),
     }
+    asked = {d for d in weekdays_of(years) if d.year >= 1901}
     for market, calendar in calendars.items():
-        asked = {d for d in weekdays_of(years) if d.year >= 1901}
         source.closed[market] = {d for d in asked if calendar.isHoliday(ql.Date(d.day, d.month, d.year))}
     return source
 
@@ -273,7 +276,7 @@ def national_holidays(year):
 
 
 def public_rules():
-    source = Source("public rules, computed", "")
+    source = Source("public rules, computed", "", last_year=LAST.year)
     source.code = "rules"
     source.closed["NYSE"] = {d for y in YEARS for d in rules_us(y)}
     source.closed["NASDAQ"] = set(source.closed["NYSE"])
@@ -387,14 +390,37 @@ def confirmers(sources, kind, markets, day, says, here, report):
 
 
 def codes_in(cell):
-    return set() if cell == NO_SOURCE else set(cell.split())
+    return set(cell.split())
+
+
+def check_documents(tables, report):
+    """Every document of a line is one of the table of documents."""
+    known = {row[0] for row in tables.get("Documents", [])}
+    for name in [*DATE_TABLES, *WEEKEND_TABLES, OTHER_YEARS]:
+        for row in tables.get(name, []):
+            for document in set(row[-2].split(", ")) - known:
+                report.error(f"{name}, {row[0]} {row[1]}: no document has the name {document}")
+
+
+def day_in(text, years, report):
+    """The date, or None where it is none, or not of these years."""
+    try:
+        day = date.fromisoformat(text)
+    except ValueError:
+        day = None
+    if day is None or day.year not in years:
+        report.error(f"{text} is no date that belongs there")
+        return None
+    return day
 
 
 def check_line(row, kind, markets, holidays, sources, verdicts, report):
-    day = date.fromisoformat(row[0])
+    day = day_in(row[0], YEARS, report)
+    if day is None:
+        return None
     says, here = answer_in(row[2]), answer_in(row[3])
     place = f"{'/'.join(markets)} {day}"
-    if row[1] != day.strftime("%a"):
+    if row[1] != day.strftime("%a") or (day.weekday() < 5) != (kind == "date"):
         report.error(f"{place} is a {day.strftime('%a')}")
     if says == here:
         report.error(f"{place}: no difference")
@@ -414,7 +440,8 @@ def check_line(row, kind, markets, holidays, sources, verdicts, report):
 
 def check_table(name, kind, markets, rows, holidays, sources, report):
     verdicts = {}
-    listed = [check_line(row, kind, markets, holidays, sources, verdicts, report) for row in rows]
+    lines = [check_line(row, kind, markets, holidays, sources, verdicts, report) for row in rows]
+    listed = [day for day in lines if day]
     if listed != sorted(set(listed)):
         report.error(f"{name}: the dates are not in order, or one is there twice")
     print(f"{name}: lines {len(rows)}")
@@ -456,17 +483,19 @@ def check_other_years(rows, holidays, years, sources, report):
     """The answer here, who confirms a line, and who says otherwise."""
     compared = {source.code for source in sources}
     for market, text, weekday, says, here, _, cell in rows:
-        day, says, here = date.fromisoformat(text), answer_in(says), answer_in(here)
-        if FIRST <= day <= LAST or weekday != day.strftime("%a") or says == here:
-            report.error(f"{market} {day}: not another year, not a {weekday}, or no difference")
-        if day.year not in years[market] or answer_here("date", market, day, holidays) != here:
-            report.error(f"{market} {day}: the answer here is not {here}, or not stored")
+        day, says, here = day_in(text, years[market] - set(YEARS), report), answer_in(says), answer_in(here)
+        if day is None:
+            continue
+        if weekday != day.strftime("%a") or says == here or answer_here("date", market, day, holidays) != here:
+            report.error(f"{market} {day}: not a {weekday}, no difference, or the answer here is not {here}")
         yes, _, no = cell.partition(" not ")
         answers = {s.code: answer_of(s, "date", market, day) for s in sources}
         confirm = {code for code, answer in answers.items() if answer == says}
         against = {code for code, answer in answers.items() if answer not in (says, None)}
         if codes_in(yes) & compared != confirm or codes_in(no) & compared != against:
             report.error(f"{market} {day}: confirmed by {sorted(confirm)}, not by {sorted(against)}; the page has {cell}")
+    if not rows or len({(row[0], row[1]) for row in rows}) != len(rows):
+        report.error(f"{OTHER_YEARS}: no lines, or one is there twice")
     print(f"{OTHER_YEARS}: {len(rows)} lines")
 
 
@@ -488,11 +517,13 @@ def main():
     holidays, stored_years = stored_holidays(root / STORED)
     tables = read_page(page)
     codes = source_codes(tables)
-    years = set(YEARS) | {date.fromisoformat(row[1]).year for row in tables.get(OTHER_YEARS, [])}
+    other_years = tables.get(OTHER_YEARS, [])
+    years = set(YEARS) | {int(row[1][:4]) for row in other_years}
     programs = load_programs(codes, years)
     sources = programs + [public_rules()]
     print("compared:", ", ".join(f"{s.code} = {s.program} {s.version}".strip() for s in sources))
     check_codes(tables, codes, {source.code for source in programs}, report)
+    check_documents(tables, report)
     listed_days = {market: set() for market in MARKETS}
     for kind, group in (("date", DATE_TABLES), ("weekend", WEEKEND_TABLES)):
         listed = {market: set() for market in MARKETS}
@@ -507,7 +538,7 @@ def main():
         for market in MARKETS:
             check_complete(kind, market, listed[market], holidays, sources, report)
     check_gaps(listed_days, holidays, sources, report)
-    check_other_years(tables.get(OTHER_YEARS, []), holidays, stored_years, programs, report)
+    check_other_years(other_years, holidays, stored_years, programs, report)
     if not programs:
         report.error("no program was compared")
     print(f"{report.errors} wrong")

@@ -1,5 +1,5 @@
 //! Added answers: inputs for which the original has no answer, panics, or leaves the years 1 to 9999. The library's answer is
-//! the one that docs/SCOPE.md fixes; docs/DIFFERENCES.md lists these inputs under the same names.
+//! the one that docs/SCOPE.md fixes; docs/DIFFERENCES.md lists these inputs.
 
 use crate::call::{catch_panic, Answer, Call, Input};
 use crate::tally::Tally;

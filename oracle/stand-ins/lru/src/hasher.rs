@@ -1,4 +1,4 @@
-//! A quick multiplicative hash. lru does not use the slow default hash of the standard library either.
+//! A quick multiplicative hash in the place of the standard library's, so that the cache is not slow by its hash.
 
 use std::hash::Hasher;
 
