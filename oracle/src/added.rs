@@ -110,8 +110,12 @@ fn day(call: Call) -> bool {
 
 /// Months and days of these years that the Gregorian calendar does not have.
 fn no_dates(years: &[u32]) -> impl Iterator<Item = Input> + Clone + '_ {
-    let no_date =
-        |&[_, year, month, day]: &Input| NaiveDate::from_ymd_opt(year as i32, month, day).is_none();
+    let no_date = |&[_, year, month, day]: &Input| {
+        i32::try_from(year)
+            .ok()
+            .and_then(|year| NaiveDate::from_ymd_opt(year, month, day))
+            .is_none()
+    };
     all_of(MARKETS, years, AROUND_MONTHS, AROUND_DAYS).filter(no_date)
 }
 

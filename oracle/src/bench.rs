@@ -25,18 +25,7 @@ pub fn run() {
 
 /// The original and the library on the same dates.
 fn sides(title: &str, days: &Days) {
-    let calendars = calendars();
-    for calendar in &calendars {
-        // Every year gets into the cache.
-        ask_original(&mut Times::default(), calendar, days);
-    }
-    let (mut original, mut library) = (vec![Times::default(); 5], vec![Times::default(); 5]);
-    for _ in 0..ROUNDS {
-        for market in 0..5 {
-            ask_original(&mut original[market], &calendars[market], days);
-            ask_library(&mut library[market], market as u32, days);
-        }
-    }
+    let (original, library) = measured(days);
     println!("\n{title}, {} dates:\n", days.len());
     println!("| Market | Original, median | least | Library, median | least | Library / original, medians | least |");
     println!("|---|---|---|---|---|---|---|");
@@ -48,6 +37,21 @@ fn sides(title: &str, days: &Days) {
         );
     }
     row("mean", &original, &library);
+}
+
+/// The times of each market, of the original and of the library.
+fn measured(days: &Days) -> (Vec<Times>, Vec<Times>) {
+    let calendars = calendars();
+    // Every year gets into the cache.
+    calendars
+        .iter()
+        .for_each(|calendar| ask_original(&mut Times::default(), calendar, days));
+    let (mut original, mut library) = (vec![Times::default(); 5], vec![Times::default(); 5]);
+    for market in (0..ROUNDS).flat_map(|_| 0..5) {
+        ask_original(&mut original[market], &calendars[market], days);
+        ask_library(&mut library[market], market as u32, days);
+    }
+    (original, library)
 }
 
 pub fn ask_original(times: &mut Times, calendar: &TradingCalendar, days: &Days) {

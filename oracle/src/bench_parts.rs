@@ -29,20 +29,23 @@ pub fn run(days: &Days) {
         .map(Parts::new)
         .collect();
     let mut times = vec![vec![Times::default(); 5]; NAMES.len()];
-    for _ in 0..ROUNDS {
-        for (index, parts) in markets.iter().enumerate() {
-            ask_original(&mut times[0][index], &parts.calendar, days);
-            parts.cached(&mut times[1][index], days);
-            parts.cloned(&mut times[2][index], days);
-            parts.locked(&mut times[3][index], days);
-            parts.contained(&mut times[4][index], days);
-        }
+    for market in (0..ROUNDS).flat_map(|_| 0..5) {
+        let parts: &Parts = &markets[market];
+        ask_original(&mut times[0][market], &parts.calendar, days);
+        parts.cached(&mut times[1][market], days);
+        parts.cloned(&mut times[2][market], days);
+        parts.locked(&mut times[3][market], days);
+        parts.contained(&mut times[4][market], days);
     }
+    print(&times);
+}
+
+fn print(times: &[Vec<Times>]) {
     println!("\nParts of the original, each measured alone, mean of the markets:\n");
     println!("| Part | ns, median | least | Share of the whole, least |");
     println!("|---|---|---|---|");
     let whole = mean(&times[0], Times::least);
-    for (name, times) in NAMES.iter().zip(&times) {
+    for (name, times) in NAMES.iter().zip(times) {
         let (median, least) = (mean(times, Times::median), mean(times, Times::least));
         let share = 100.0 * least / whole;
         println!("| {name} | {median:.1} | {least:.1} | {share:.0} % |");

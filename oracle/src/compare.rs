@@ -81,18 +81,26 @@ fn last_weekdays() -> bool {
 /// Every n from 1 to 255, but where the original answers a day past 9999-12-31.
 fn nth_weekdays() -> bool {
     let mut tally = Tally::new("nth_weekday_of_month");
-    for (year, month, weekday) in months_and_weekdays() {
-        for nth in 1..=255 {
-            let original = original::nth_weekday_of_month(year, month, weekday, nth);
-            if original.date.year > LAST_YEAR {
-                continue;
-            }
-            let library = tc_nth_weekday_of_month(year, month, weekday, nth);
-            tally.compare(&[year, month, weekday, u32::from(nth)], library, original);
+    let inputs = months_and_weekdays().flat_map(|month| (1..=255).map(move |nth| (month, nth)));
+    for ((year, month, weekday), nth) in inputs {
+        let original = original::nth_weekday_of_month(year, month, weekday, nth);
+        if original.date.year > LAST_YEAR {
+            continue;
         }
+        let library = tc_nth_weekday_of_month(year, month, weekday, nth);
+        tally.compare(&[year, month, weekday, u32::from(nth)], library, original);
     }
     let left_out = added::nth_past_the_last_day().count();
     tally.close((YEARS.count() * 12 * 7 * 255 - left_out) as u64)
+}
+
+/// Every market, every day of the years 1 to 9999, in both forms.
+fn all_days() -> impl Iterator<Item = (u32, Date, NaiveDate)> {
+    (0..5).flat_map(|market| {
+        YEARS
+            .flat_map(days_of)
+            .map(move |(date, naive)| (market, date, naive))
+    })
 }
 
 /// The calls of TradingCalendar: every market, every day of the years 1 to 9999.
@@ -104,37 +112,35 @@ fn wrappers(
     let calendars = original::calendars();
     let mut inside = Tally::new(format!("{name}, years 2020 to 2030"));
     let mut outside = Tally::new(format!("{name}, error 1 in the other years"));
-    for (market, calendar) in (0..).zip(&calendars) {
-        for (date, naive) in YEARS.flat_map(days_of) {
-            let tally = if ANSWERED_YEARS.contains(&date.year) {
-                &mut inside
-            } else {
-                &mut outside
-            };
-            let due = of_result(original(calendar, naive));
-            let input = [market, date.year, date.month, date.day];
-            tally.compare(&input, library(market, date), due);
-        }
+    for (market, date, naive) in all_days() {
+        let tally = if ANSWERED_YEARS.contains(&date.year) {
+            &mut inside
+        } else {
+            &mut outside
+        };
+        let due = of_result(original(&calendars[market as usize], naive));
+        let input = [market, date.year, date.month, date.day];
+        tally.compare(&input, library(market, date), due);
     }
     inside.close(MARKETS * ANSWERED_DAYS) & outside.close(MARKETS * (ALL_DAYS - ANSWERED_DAYS))
 }
 
-/// What stands behind these calls, without the limits of years.
+/// What stands behind these calls, without the limits 2020 and 2030.
 fn implementations() -> bool {
     let mut holidays = Tally::new("is_holiday, any year, no error 1");
     let mut trading_days = Tally::new("is_trading_day, any year, no error 1");
-    for (market, original) in (0..).zip(&original::implementations()) {
-        for (Date { year, month, day }, naive) in YEARS.flat_map(days_of) {
-            let input = &[market, year, month, day];
-            let holiday = all_years_is_holiday(market, year, month, day);
-            holidays.compare(input, holiday, u32::from(original.is_holiday(naive)));
-            let trading_day = all_years_is_trading_day(market, year, month, day);
-            trading_days.compare(
-                input,
-                trading_day,
-                u32::from(original.is_trading_day(naive)),
-            );
-        }
+    let implementations = original::implementations();
+    for (market, Date { year, month, day }, naive) in all_days() {
+        let original = &implementations[market as usize];
+        let input = &[market, year, month, day];
+        let holiday = all_years_is_holiday(market, year, month, day);
+        holidays.compare(input, holiday, u32::from(original.is_holiday(naive)));
+        let trading_day = all_years_is_trading_day(market, year, month, day);
+        trading_days.compare(
+            input,
+            trading_day,
+            u32::from(original.is_trading_day(naive)),
+        );
     }
     holidays.close(MARKETS * ALL_DAYS) & trading_days.close(MARKETS * ALL_DAYS)
 }

@@ -1,4 +1,4 @@
-//! The calls of the library as include/trading_calendar.h has them, and those of all_years, which know no limits of years.
+//! The calls of the library as include/trading_calendar.h has them, and those of all_years, for any of the years 1 to 9999.
 
 #[repr(C)]
 #[derive(Clone, Copy, Debug, Default, PartialEq, Eq)]

@@ -7,7 +7,7 @@ pub const HEAD: &str = "\
 # Which days are holidays of a market, and which are trading days. Markets are 0 NYSE, 1 NASDAQ, 2 LSE, 3 TSE, 4 TSX.
 #
 # holidays MARKET YEAR = every holiday of the year in order, weekends included, each as month * 100 + day
-# holidays_any_year MARKET YEAR = the same in any year 1 to 9999, also where the calls give error 1
+# holidays_any_year MARKET YEAR = the same in any year 1 to 9999, also where the calls give error 1; NASDAQ's are NYSE's
 # trading_days MARKET YEAR MONTH = every trading day of the month in order
 # is_holiday MARKET YEAR MONTH DAY = error, value, year, month, day, where the date is that of error 1
 # is_trading_day MARKET YEAR MONTH DAY = the same
@@ -60,7 +60,8 @@ pub const EDGES: [[u32; 3]; 18] = [
 ];
 
 /// Rules of the library that the original does not have: error, what it is for, inputs.
-pub const OWN_RULES: [(u32, &str, &[Day]); 4] = [
+pub type OwnRule = (u32, &'static str, &'static [Day]);
+pub const OWN_RULES: [OwnRule; 4] = [
     (
         5,
         "no date",

@@ -2,7 +2,9 @@
 
 use crate::library::{BoolResult, Date};
 use crate::original::{calendars, days_of, implementations, of_result};
-use crate::row_inputs::{months, other_years, Day, EDGES, EXAMPLES, HEAD, NAMES, OWN_RULES};
+use crate::row_inputs::{
+    months, other_years, Day, OwnRule, EDGES, EXAMPLES, HEAD, NAMES, OWN_RULES,
+};
 use crate::ANSWERED_YEARS;
 use chrono::NaiveDate;
 use std::io::{self, BufWriter, Write};
@@ -16,14 +18,19 @@ pub fn run() -> io::Result<()> {
         implementations: implementations(),
     };
     write!(rows.out, "{HEAD}")?;
-    rows.holidays()?;
-    rows.holidays_any_year()?;
-    rows.trading_days()?;
+    (0..5).try_for_each(|market| rows.holidays(market))?;
+    // NASDAQ has the rules of NYSE and is left out.
+    [0, 2, 3, 4]
+        .iter()
+        .try_for_each(|&market| rows.holidays_any_year(market))?;
+    (0..5).try_for_each(|market| rows.trading_days(market))?;
     rows.days("is_holiday", TradingCalendar::is_holiday)?;
     rows.days("is_trading_day", TradingCalendar::is_trading_day)?;
     rows.wrong_on_purpose()?;
     rows.out.flush()
 }
+
+type Ask = fn(&TradingCalendar, NaiveDate) -> Result<bool>;
 
 struct Rows<Out: Write> {
     out: Out,
@@ -32,82 +39,68 @@ struct Rows<Out: Write> {
 }
 
 impl<Out: Write> Rows<Out> {
-    /// Every market, every year with answers.
-    fn holidays(&mut self) -> io::Result<()> {
-        for market in 0..5 {
-            let name = NAMES[market as usize];
-            self.heading(&format!("{name}: the holidays of the years 2020 to 2030"))?;
-            for year in ANSWERED_YEARS {
-                let days = self.holidays_of(market, year);
-                self.row("holidays", &[market, year], &days)?;
-            }
+    fn holidays(&mut self, market: u32) -> io::Result<()> {
+        let name = NAMES[market as usize];
+        self.heading(&format!("{name}: the holidays of the years 2020 to 2030"))?;
+        for year in ANSWERED_YEARS {
+            let days = self.holidays_of(market, year);
+            self.row("holidays", &[market, year], &days)?;
         }
         Ok(())
     }
 
-    /// NASDAQ has the rules of NYSE and is left out.
-    fn holidays_any_year(&mut self) -> io::Result<()> {
-        for market in [0, 2, 3, 4] {
-            let name = NAMES[market as usize];
-            self.heading(&format!("{name}: the holidays of other years"))?;
-            for year in other_years() {
-                let days = self.holidays_of_any_year(market, year);
-                self.row("holidays_any_year", &[market, year], &days)?;
-            }
+    fn holidays_any_year(&mut self, market: u32) -> io::Result<()> {
+        let name = NAMES[market as usize];
+        self.heading(&format!("{name}: the holidays of other years"))?;
+        for year in other_years() {
+            let days = self.holidays_of_any_year(market, year);
+            self.row("holidays_any_year", &[market, year], &days)?;
         }
         Ok(())
     }
 
-    fn trading_days(&mut self) -> io::Result<()> {
-        for market in 0..5 {
-            let name = NAMES[market as usize];
-            self.heading(&format!("{name}: the trading days of some months"))?;
-            for year in ANSWERED_YEARS {
-                for &month in months(market) {
-                    let days = self.trading_days_of(market, year, month);
-                    self.row("trading_days", &[market, year, month], &days)?;
-                }
-            }
+    fn trading_days(&mut self, market: u32) -> io::Result<()> {
+        let name = NAMES[market as usize];
+        self.heading(&format!("{name}: the trading days of some months"))?;
+        let all = ANSWERED_YEARS.flat_map(|year| months(market).iter().map(move |&m| (year, m)));
+        for (year, month) in all {
+            let days = self.trading_days_of(market, year, month);
+            self.row("trading_days", &[market, year, month], &days)?;
         }
         Ok(())
     }
 
     /// Single dates, for is_holiday or is_trading_day.
-    fn days(
-        &mut self,
-        name: &str,
-        ask: fn(&TradingCalendar, NaiveDate) -> Result<bool>,
-    ) -> io::Result<()> {
+    fn days(&mut self, name: &str, ask: Ask) -> io::Result<()> {
         self.heading(&format!("{name}: examples of docs/SCOPE.md"))?;
-        for day in EXAMPLES {
-            self.day(name, day, ask)?;
-        }
+        EXAMPLES
+            .iter()
+            .try_for_each(|&day| self.day(name, day, ask))?;
         self.heading(&format!(
             "{name}: around the years 2020 and 2030, far outside, and leap days"
         ))?;
-        for market in 0..5 {
-            for [year, month, day] in EDGES {
-                self.day(name, [market, year, month, day], ask)?;
-            }
-        }
-        for (error, about, days) in OWN_RULES {
-            self.heading(&format!(
-                "{name}, a rule that the original does not have: error {error}, {about}"
-            ))?;
-            for day in days {
-                self.row(name, day, &[error, 0, 0, 0, 0])?;
-            }
+        let edges =
+            (0..5).flat_map(|market| EDGES.map(|[year, month, day]| [market, year, month, day]));
+        edges
+            .into_iter()
+            .try_for_each(|day| self.day(name, day, ask))?;
+        OWN_RULES
+            .iter()
+            .try_for_each(|rule| self.own_rule(name, rule))
+    }
+
+    fn own_rule(&mut self, name: &str, (error, about, days): &OwnRule) -> io::Result<()> {
+        self.heading(&format!(
+            "{name}, a rule that the original does not have: error {error}, {about}"
+        ))?;
+        for day in *days {
+            self.row(name, day, &[*error, 0, 0, 0, 0])?;
         }
         Ok(())
     }
 
     /// What the original answers for a date.
-    fn day(
-        &mut self,
-        name: &str,
-        input: Day,
-        ask: fn(&TradingCalendar, NaiveDate) -> Result<bool>,
-    ) -> io::Result<()> {
+    fn day(&mut self, name: &str, input: Day, ask: Ask) -> io::Result<()> {
         let [market, year, month, day] = input;
         let date = NaiveDate::from_ymd_opt(year as i32, month, day).expect("a date");
         let BoolResult { error, value, date } =
@@ -169,15 +162,9 @@ impl<Out: Write> Rows<Out> {
     }
 
     fn row(&mut self, name: &str, input: &[u32], answer: &[u32]) -> io::Result<()> {
-        write!(self.out, "{name}")?;
-        for number in input {
-            write!(self.out, " {number}")?;
-        }
-        write!(self.out, " =")?;
-        for number in answer {
-            write!(self.out, " {number}")?;
-        }
-        writeln!(self.out)
+        let words =
+            |numbers: &[u32]| -> String { numbers.iter().map(|n| format!(" {n}")).collect() };
+        writeln!(self.out, "{name}{} ={}", words(input), words(answer))
     }
 }
 

@@ -1,5 +1,5 @@
 // Trading days and holidays in any of years 1 to 9999, as C functions. They are no part of the library, whose calls answer for
-// 2020 to 2030: the comparison with the Rust, whose markets answer in every year, asks them (oracle/).
+// 2020 to 2030. The comparison with the Rust, whose markets answer in every year, and the stored holidays of other years ask them.
 ghost use mathlib.Core.Path.{_≡_};
 ghost use Rattle.utils.specs.Weekday.{InYears};
 ghost use Rattle.markets.specs.Markets.{isTradingDay, isHoliday};

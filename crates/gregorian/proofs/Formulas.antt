@@ -1,11 +1,10 @@
--- What the code's formulas and tables come to.
+-- What the code's formulas come to.
 -- Assumes nothing.
 use Prim.Native.Nat.{ℕ, _+_, _-_, _*_, _/_, _%_, _≤_, _<_}
 use mathlib.Core.Path.{_≡_, ap, sym, _∙_, subst}
 use mathlib.Core.Bool.{Bool, true, false, cond}
-use mathlib.Core.List.{List, [], _∷_}
 use lib.Dec.{lit≤}
-use lib.ListN.{getD, List·getD-eq-default}
+use lib.ListN.{List·getD-eq-default}
 use native.Mathlib.Omega.{arith}
 use native.Mathlib.Decide.{decLt}
 use Rattle.gregorian.specs.Calendar.{total, leap, leapDay, yearLength, monthLengths, monthLength, dayNumber, lastYear, lastDay, Exists, isDate, dateOf, date, Within}

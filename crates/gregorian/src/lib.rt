@@ -91,7 +91,7 @@ fn days_in_years(k: u32) -> u32
     365 * k + k / 4 - k / 100 + k / 400
 }
 
-// The days of the months 1 to k: 367 / 12 a month as if February had 30, and the days that it lacks.
+// The days of the months 1 to k: 367 / 12 a month, as if February had 30, less the days that it lacks.
 fn days_in_months(year: u32, k: u32) -> u32
     requires { ⌜ k ≤ 12 ⌝ }
     ensures { λ r. ⌜ r ≡ total (monthLength year) k ⌝ }

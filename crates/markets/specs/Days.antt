@@ -31,7 +31,7 @@ abbrev pub isDay : OptionalDay → ℕ → Bool
 isDay (Day d) n = eqb n d
 isDay None n = false
 
--- day n is from 20 March to 26 April: Good Friday and Easter Monday are
+-- day n is from 20 March to 26 April, as Good Friday and Easter Monday always are
 abbrev pub isAroundEaster : ℕ → ℕ → Bool
 isAroundEaster year n = leb (dayNumber year 3 20) n && leb n (dayNumber year 4 26)
 

@@ -18,6 +18,7 @@ fn is_holiday(in_any_year: bool, market: u32, year: u32, month: u32, day: u32) -
 pub fn holidays(in_any_year: bool, market: u32, year: u32) -> Numbers {
     let mut list = Numbers::new();
     let mut i = 0;
+    // 12 times 31 days; those that are no date are no holidays.
     while i < 372 {
         let month = i / 31 + 1;
         let day = i % 31 + 1;

@@ -1,5 +1,4 @@
 -- `markets::is_around_easter` meets its contract: both ends.
-use mathlib.Core.Path.{_≡_}
 use mathlib.Core.Bool.{_&&_}
 use lib.Dec.{leb}
 use borrow.Author.Needs.{needs}

@@ -1,10 +1,10 @@
-//! Dates, as cheap to ask as chrono's: one integer, from which year, month, day and weekday are read by a shift.
+//! Dates as one integer, from which year, month, day and weekday are read by a shift, so that they cost little to ask.
 
 use crate::{day_number, Duration, NaiveDateTime, NaiveTime, Weekday};
 use std::fmt;
 use std::ops::{Add, AddAssign, Sub, SubAssign};
 
-/// The years that chrono has.
+/// More than the comparison asks for.
 const YEARS: std::ops::RangeInclusive<i32> = -262143..=262142;
 
 const YEAR_SHIFT: u32 = 12;

@@ -1,6 +1,6 @@
 -- `markets::japan::holidays::is_with_substitute` meets its contract: the day after the date, and every other day.
 use Prim.Native.Nat.{ℕ, _+_}
-use mathlib.Core.Path.{_≡_, refl, sym, ap, _∙_}
+use mathlib.Core.Path.{_≡_, refl, ap, _∙_}
 use mathlib.Core.Bool.{Bool, true, false, _&&_, _||_}
 use lib.Dec.{eqb}
 use native.Mathlib.Omega.{arith}
