@@ -1,4 +1,4 @@
-//! The calls of the library as include/trading_calendar.h has them, and those of all_years, for any of the years 1 to 9999.
+//! The calls of the library as include/trading_calendar.h has them, and that of all_years, for any of the years 1 to 9999.
 
 #[repr(C)]
 #[derive(Clone, Copy, Debug, Default, PartialEq, Eq)]
@@ -23,6 +23,15 @@ pub struct BoolResult {
     pub date: Date,
 }
 
+/// Of all_years: every field is 0 if there is no such market or no such date.
+#[repr(C)]
+#[derive(Clone, Copy, Debug, Default, PartialEq, Eq)]
+pub struct DayAnswer {
+    pub known: u32,
+    pub holiday: u32,
+    pub trades: u32,
+}
+
 // Safe, since every call takes any numbers at all.
 unsafe extern "C" {
     pub safe fn tc_nth_weekday_of_month(
@@ -38,7 +47,5 @@ unsafe extern "C" {
     pub safe fn tc_is_trading_day(market: u32, year: u32, month: u32, day: u32) -> BoolResult;
     pub safe fn tc_is_holiday(market: u32, year: u32, month: u32, day: u32) -> BoolResult;
 
-    /// 1 yes, 0 no, 2 if there is no such market or no such date.
-    pub safe fn all_years_is_trading_day(market: u32, year: u32, month: u32, day: u32) -> u32;
-    pub safe fn all_years_is_holiday(market: u32, year: u32, month: u32, day: u32) -> u32;
+    pub safe fn all_years_day(market: u32, year: u32, month: u32, day: u32) -> DayAnswer;
 }

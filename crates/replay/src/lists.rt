@@ -1,14 +1,15 @@
 // Rows that list the days of a year or of a month for which a call answers yes. The list is empty where the call answers an
 // error on every day.
 use crate::numbers::Numbers;
-use all_years::all_years_is_holiday;
+use all_years::all_years_day;
 use trading_calendar::tc_is_holiday;
 use trading_calendar::tc_is_trading_day;
 
 // By the library's call in 2020 to 2030, or by that for any year.
 fn is_holiday(in_any_year: bool, market: u32, year: u32, month: u32, day: u32) -> bool {
     if in_any_year {
-        return all_years_is_holiday(market, year, month, day) == 1;
+        let answer = all_years_day(market, year, month, day);
+        return answer.holiday == 1;
     }
     let answer = tc_is_holiday(market, year, month, day);
     answer.value == 1

@@ -1,0 +1,14 @@
+-- `all_years::flag` meets its contract: both arms.
+use mathlib.Core.Path.{ap, sym}
+use Rattle.all_years.specs.Answers.{flagOf}
+use Rattle.all_years.proofs.flag.Statement.{statement}
+use Rattle.all_years.proofs.flag.Tie as tie
+
+returns : tie.Need-returns
+returns c = ap flagOf (sym (c .if1 .taken))
+
+returns-2 : tie.Need-returns-2
+returns-2 c = ap flagOf (sym (c .if1 .left))
+
+pub flag-spec : {M : Type 1} → statement M
+flag-spec = tie.close (tie.spec returns returns-2)
