@@ -132,9 +132,9 @@ fn implementations() -> bool {
     for (market, Date { year, month, day }, naive) in all_days() {
         let original = &implementations[market as usize];
         let due = DayAnswer {
-            known: 1,
-            holiday: u32::from(original.is_holiday(naive)),
-            trades: u32::from(original.is_trading_day(naive)),
+            known: true,
+            holiday: original.is_holiday(naive),
+            trades: original.is_trading_day(naive),
         };
         let library = all_years_day(market, year, month, day);
         tally.compare(&[market, year, month, day], library, due);

@@ -23,13 +23,13 @@ pub struct BoolResult {
     pub date: Date,
 }
 
-/// Of all_years: every field is 0 if there is no such market or no such date.
+/// Of all_years: every field is false if there is no such market or no such date.
 #[repr(C)]
 #[derive(Clone, Copy, Debug, Default, PartialEq, Eq)]
 pub struct DayAnswer {
-    pub known: u32,
-    pub holiday: u32,
-    pub trades: u32,
+    pub known: bool,
+    pub holiday: bool,
+    pub trades: bool,
 }
 
 // Safe, since every call takes any numbers at all.

@@ -2,15 +2,15 @@
 // to 2030. The comparison with the Rust, whose markets answer in every year, and the stored holidays of other years ask it.
 ghost use mathlib.Core.Path.{_≡_};
 ghost use Rattle.utils.specs.Weekday.{InYears};
-ghost use Rattle.all_years.specs.Answers.{knownDay, flagOf, dayAnswer};
+ghost use Rattle.all_years.specs.Answers.{knownDay, dayAnswer};
 use utils::OptionalDay;
 
-// known is 1, and the others are 1 for yes and 0 for no; or there is no such market or no such date, and every field is 0.
+// Where there is no such market or no such date, every field is false.
 #[repr(C)]
 pub struct DayAnswer {
-    pub known: u32,
-    pub holiday: u32,
-    pub trades: u32,
+    pub known: bool,
+    pub holiday: bool,
+    pub trades: bool,
 }
 
 // The day number, if there are such a market and such a date.
@@ -27,12 +27,6 @@ fn known_day(market: u32, year: u32, month: u32, day: u32) -> OptionalDay
     }
 }
 
-fn flag(yes: bool) -> u32
-    ensures { λ r. ⌜ r ≡ flagOf yes ⌝ }
-{
-    if yes { 1 } else { 0 }
-}
-
 // [is-holiday], [trading-day]
 #[no_mangle]
 pub extern "C" fn all_years_day(market: u32, year: u32, month: u32, day: u32) -> DayAnswer
@@ -40,14 +34,14 @@ pub extern "C" fn all_years_day(market: u32, year: u32, month: u32, day: u32) ->
 {
     match known_day(market, year, month, day) {
         OptionalDay::Day(n) => DayAnswer {
-            known: 1,
-            holiday: flag(markets::is_holiday(market, n)),
-            trades: flag(markets::is_trading_day(market, n)),
+            known: true,
+            holiday: markets::is_holiday(market, n),
+            trades: markets::is_trading_day(market, n),
         },
         OptionalDay::None => DayAnswer {
-            known: 0,
-            holiday: 0,
-            trades: 0,
+            known: false,
+            holiday: false,
+            trades: false,
         },
     }
 }

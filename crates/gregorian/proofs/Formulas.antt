@@ -49,13 +49,16 @@ pub before-march : (y k : ℕ) → k < 2 → (367 * k + 5) / 12 ≡ total (month
 unfolding total monthLength
 before-march y k h = upto (λ (k : ℕ). (367 * k + 5) / 12 ≡ total (monthLength y) k) 2 (omega arith) k h
 
-pub from-march : (y k : ℕ) (r b : Bool) → 2 ≤ k → k < 13 → r ≡ leap y → r ≡ b → (367 * k + 5) / 12 - cond b 1 2 ≡ total (monthLength y) k
+months-past : (y k : ℕ) → 2 ≤ k → k < 13 → (367 * k + 5) / 12 + leapDay y ≡ total (monthLength y) k + 2
 unfolding total monthLength
+months-past y k l h = upto (λ (k : ℕ). 2 ≤ k → (367 * k + 5) / 12 + leapDay y ≡ total (monthLength y) k + 2) 13 (omega arith) k h l
+
+pub from-march : (y k : ℕ) (r b : Bool) → 2 ≤ k → k < 13 → r ≡ leap y → r ≡ b → (367 * k + 5) / 12 - cond b 1 2 ≡ total (monthLength y) k
 from-march y k r b l h p q = by-leap b (leap-is y r b p q)
   where
     by-leap : (b : Bool) → leapDay y ≡ cond b 1 0 → (367 * k + 5) / 12 - cond b 1 2 ≡ total (monthLength y) k
-    by-leap true d = upto (λ (k : ℕ). 2 ≤ k → (367 * k + 5) / 12 - 1 ≡ total (monthLength y) k) 13 (omega arith) k h l
-    by-leap false d = upto (λ (k : ℕ). 2 ≤ k → (367 * k + 5) / 12 - 2 ≡ total (monthLength y) k) 13 (omega arith) k h l
+    by-leap true d = omega (arith, months-past y k l h)
+    by-leap false d = omega (arith, months-past y k l h)
 
 -- Of a guess k that is right or one too low, a test of the sum up to the next tells which.
 below-most : (f : ℕ → ℕ) (most n k : ℕ) → n ≤ total f most → total f k < n → k < most

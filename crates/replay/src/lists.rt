@@ -9,7 +9,7 @@ use trading_calendar::tc_is_trading_day;
 fn is_holiday(in_any_year: bool, market: u32, year: u32, month: u32, day: u32) -> bool {
     if in_any_year {
         let answer = all_years_day(market, year, month, day);
-        return answer.holiday == 1;
+        return answer.holiday;
     }
     let answer = tc_is_holiday(market, year, month, day);
     answer.value == 1

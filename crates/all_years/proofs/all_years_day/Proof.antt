@@ -1,8 +1,9 @@
 -- `all_years::all_years_day` meets its contract: a day, and none.
 use mathlib.Core.Path.{_≡_, sym, ap, _∙_, subst}
+use mathlib.Core.Bool.{true}
 use borrow.Author.Needs.{needs}
 use Rattle.utils.specs.Weekday.{InYears}
-use Rattle.all_years.specs.Answers.{flagOf, dayAnswer}
+use Rattle.all_years.specs.Answers.{dayAnswer}
 use Rattle.all_years.proofs.all_years_day.Statement.{statement}
 use Rattle.all_years.proofs.all_years_day.Tie as tie
 
@@ -10,12 +11,12 @@ is-holiday-requires : tie.Need-is-holiday-requires
 is-holiday-requires c κs = subst InYears (c .before .n .given .1) (c .before .before .before .known-day .ensures .1)
 
 is-trading-day-requires : tie.Need-is-trading-day-requires
-is-trading-day-requires c κs = subst InYears (c .before .before .before .n .given .1) (c .before .before .before .before .before .known-day .ensures .1)
+is-trading-day-requires c κs = subst InYears (c .before .before .n .given .1) (c .before .before .before .before .known-day .ensures .1)
 
 returns : tie.Need-returns
 returns c =
-    let s = c .before .before .before .before .before in
-    (λ j. record { known = 1; holiday = (c .before .before .flag .ensures ∙ ap flagOf (c .before .before .before .is-holiday .ensures)) j; trades = (c .flag2 .ensures ∙ ap flagOf (c .before .is-trading-day .ensures)) j })
+    let s = c .before .before .before in
+    (λ j. record { known = true; holiday = c .before .is-holiday .ensures j; trades = c .is-trading-day .ensures j })
     ∙ ap (dayAnswer (s .before .before .before .args .market)) (sym (s .n .given .1) ∙ s .before .before .known-day .ensures .0)
 
 returns-2 : tie.Need-returns-2
@@ -24,4 +25,4 @@ returns-2 c = ap (dayAnswer (c .before .before .before .args .market)) (sym (c .
 pub all-years-day-spec : {M : Type 1} → statement M
 all-years-day-spec =
     tie.close
-    (tie.spec (search needs) (search needs) is-holiday-requires (search needs) is-trading-day-requires (search needs) (search needs) returns returns-2)
+    (tie.spec (search needs) (search needs) is-holiday-requires is-trading-day-requires (search needs) returns returns-2)

@@ -1,4 +1,4 @@
--- `gregorian::days_in_month` meets its contract: February by the leap year, the other months by the formula, and 0 before January and past December.
+-- `gregorian::days_in_month` meets its contract: February by the leap year, the other months by the formula, and 0 for no month.
 use mathlib.Core.Path.{_≡_, sym}
 use mathlib.Core.Bool.{Bool, true, false, cond}
 use native.Mathlib.Omega.{arith}

@@ -1,4 +1,4 @@
--- `gregorian::days_in_months` meets its contract: the formula, less the days that February lacks from March on, is the sum of the month lengths.
+-- `gregorian::days_in_months` meets its contract: the formula, less what February lacks from March on, is the sum.
 use Prim.Native.Nat.{_+_, _-_, _*_, _/_}
 use mathlib.Core.Path.{_≡_}
 use mathlib.Core.Bool.{Bool, true, false, cond}
