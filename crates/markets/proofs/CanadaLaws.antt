@@ -10,9 +10,9 @@ use Rattle.gregorian.proofs.Laws.{days-on}
 use Rattle.gregorian.proofs.Weekdays.{weekday-after}
 use Rattle.utils.specs.Weekday.{nthWeekdayOfMonth}
 use Rattle.utils.specs.Easter.{calculateGoodFriday}
-use Rattle.markets.specs.Days.{contains, isDay, matchWeekend, adjustForWeekend}
+use Rattle.days.specs.Days.{contains, isDay, matchWeekend, adjustForWeekend}
 use Rattle.markets.specs.Canada.{familyDay, victoriaDay, boxingDay, getCanadaHolidays}
-use Rattle.markets.proofs.DayLaws.{contains-none, contains-insert, contains-day}
+use Rattle.days.proofs.DayLaws.{contains-none, contains-insert, contains-day}
 
 -- The `match` on both weekdays needs only that of Boxing Day: (_, Sat) and (_, Sun) after the first two arms are never taken.
 match-both : (n : ℕ) (s t : Bool) → eqb (weekdayOf (n + 1)) saturday ≡ s → eqb (weekdayOf (n + 1)) sunday ≡ t → cond (eqb (weekdayOf n) friday && s) (n + 1 + 2) (cond (eqb (weekdayOf n) saturday && t) (n + 1 + 2) (cond s (n + 1 + 2) (cond t (n + 1 + 1) (n + 1)))) ≡ cond s (n + 1 + 2) (cond t (n + 1 + 2) (n + 1))

@@ -9,10 +9,10 @@ use native.Mathlib.Omega.{arith}
 use Rattle.gregorian.specs.Calendar.{lastYear, lastDay, dateOf}
 use Rattle.gregorian.proofs.Laws.{is-date, date-of-is}
 use Rattle.gregorian.proofs.Total.{upto}
-use Rattle.markets.specs.Days.{contains}
+use Rattle.days.specs.Days.{contains}
 use Rattle.markets.specs.Us.{getUsHolidays}
 use Rattle.markets.specs.Markets.{holidaysByCode, holidays, isHoliday}
-use Rattle.markets.proofs.DayLaws.{contains-none}
+use Rattle.days.proofs.DayLaws.{contains-none}
 
 -- the year of a day number
 pub year-range : (n y : ℕ) → (1 ≤ n) × (n ≤ lastDay) → y ≡ dateOf n .year → (1 ≤ y) × (y ≤ lastYear)

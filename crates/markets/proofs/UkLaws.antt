@@ -12,9 +12,9 @@ use Rattle.gregorian.proofs.Laws.{days-on}
 use Rattle.gregorian.proofs.Weekdays.{weekday-after}
 use Rattle.utils.specs.Weekday.{nthWeekdayOfMonth, lastWeekdayOfMonth}
 use Rattle.utils.specs.Easter.{calculateGoodFriday, calculateEasterMonday}
-use Rattle.markets.specs.Days.{contains, insert, isDay, adjustForWeekend}
+use Rattle.days.specs.Days.{contains, insert, isDay, adjustForWeekend}
 use Rattle.markets.specs.Uk.{addBoxingDay, isOneOfTwo, isChristmasOrBoxingDay, getUkHolidays}
-use Rattle.markets.proofs.DayLaws.{contains-none, contains-insert, contains-day, on-key, on-weekday}
+use Rattle.days.proofs.DayLaws.{contains-none, contains-insert, contains-day, on-key, on-weekday}
 
 -- The arms of the code, one of a weekday k, and the last.
 pub christmas-on : (k y n d w : ℕ) → w ≡ k → w ≡ weekdayOf d → d ≡ dayNumber y 12 25 → isOneOfTwo n d k ≡ isChristmasOrBoxingDay y n

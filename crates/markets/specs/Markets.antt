@@ -5,11 +5,11 @@ use mathlib.Core.List.{List, [], _∷_}
 use lib.Dec.{eqb}
 use lib.ListN.{getD}
 use Rattle.gregorian.specs.Calendar.{saturday, sunday, dateOf, weekdayOf}
-use Rattle.markets.specs.Days.{contains}
+use Rattle.days.specs.Days.{contains}
 use Rattle.markets.specs.Us.{getUsHolidays}
 use Rattle.markets.specs.Uk.{getUkHolidays}
 use Rattle.markets.specs.Canada.{getCanadaHolidays}
-use Rattle.markets.specs.Japan.{getJapanHolidays}
+use Rattle.japan.specs.Japan.{getJapanHolidays}
 
 -- create_implementation: the holidays of each market, in the order of the codes, NYSE, NASDAQ, LSE, TSE, TSX
 abbrev pub holidaysByCode : List (ℕ → List ℕ)

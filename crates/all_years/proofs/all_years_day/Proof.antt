@@ -1,5 +1,5 @@
 -- `all_years::all_years_day` meets its contract: a day, and none.
-use mathlib.Core.Path.{_≡_, sym, ap, _∙_, subst}
+use mathlib.Core.Path.{sym, ap, _∙_, subst}
 use mathlib.Core.Bool.{true}
 use borrow.Author.Needs.{needs}
 use Rattle.utils.specs.Weekday.{InYears}

@@ -5,7 +5,7 @@ use mathlib.Core.List.{List}
 use native.Mathlib.Omega.{arith}
 use borrow.Author.Needs.{needs}
 use Rattle.gregorian.specs.Calendar.{dateOf}
-use Rattle.markets.specs.Days.{contains}
+use Rattle.days.specs.Days.{contains}
 use Rattle.markets.specs.Markets.{holidays}
 use Rattle.markets.proofs.MarketLaws.{year-range, us-market, no-market, by-code}
 use Rattle.markets.proofs.is_holiday.Statement.{statement}

@@ -1,0 +1,62 @@
+// Days that the rules of several markets share: a day of the year, one that moves to Monday, Good Friday. Labels in brackets are
+// those of docs/SCOPE.md.
+ghost use mathlib.Core.Path.{_≡_};
+ghost use mathlib.Core.Bool.{true};
+ghost use Prim.Native.Nat.{_≤_};
+ghost use Rattle.gregorian.specs.Calendar.{lastYear, lastDay, dayNumber};
+ghost use Rattle.utils.specs.Easter.{calculateGoodFriday};
+ghost use Rattle.days.specs.Days.{isDay, isAroundEaster, adjustForWeekend};
+ghost use Rattle.days.specs.Requires.{everyYearHas};
+use gregorian::SATURDAY;
+use gregorian::SUNDAY;
+use utils::OptionalDay;
+use utils::easter::calculate_good_friday;
+
+// A day that every year has.
+pub fn fixed_day(year: u32, month: u32, day: u32) -> u32
+    requires { ⌜ (1 ≤ year) × (year ≤ lastYear) × (everyYearHas month day ≡ true) ⌝ }
+    ensures { λ r. ⌜ (r ≡ dayNumber year month day) × (1 ≤ r) × (day ≤ r) × (r ≤ lastDay) ⌝ }
+{
+    gregorian::day_number(year, month, day)
+}
+
+// [weekend-moves]: on Monday if on a weekend.
+fn adjust_for_weekend(n: u32) -> u32
+    requires { ⌜ (1 ≤ n) × (n ≤ lastDay) ⌝ }
+    ensures { λ r. ⌜ r ≡ adjustForWeekend n ⌝ }
+{
+    match gregorian::weekday(n) {
+        SATURDAY => n + 2,
+        SUNDAY => n + 1,
+        _ => n,
+    }
+}
+
+// A day that every year has, on Monday if on a weekend.
+pub fn observed(year: u32, month: u32, day: u32) -> u32
+    requires { ⌜ (1 ≤ year) × (year ≤ lastYear) × (everyYearHas month day ≡ true) ⌝ }
+    ensures { λ r. ⌜ r ≡ adjustForWeekend (dayNumber year month day) ⌝ }
+{
+    adjust_for_weekend(fixed_day(year, month, day))
+}
+
+// From 20 March to 26 April. Easter is from 22 March to 25 April, so on other days it need not be computed.
+pub fn is_around_easter(year: u32, n: u32) -> bool
+    requires { ⌜ (1 ≤ year) × (year ≤ lastYear) ⌝ }
+    ensures { λ r. ⌜ r ≡ isAroundEaster year n ⌝ }
+{
+    (fixed_day(year, 3, 20) <= n) & (n <= fixed_day(year, 4, 26))
+}
+
+pub fn is_good_friday(year: u32, n: u32) -> bool
+    requires { ⌜ (1 ≤ year) × (year ≤ lastYear) ⌝ }
+    ensures { λ r. ⌜ r ≡ isDay (calculateGoodFriday year) n ⌝ }
+{
+    if !is_around_easter(year, n) {
+        return false;
+    }
+    let OptionalDay::Day(good_friday) = calculate_good_friday(year) else {
+        return false;
+    };
+    n == good_friday
+}

@@ -1,0 +1,212 @@
+-- The holidays of Japan by the shorter account: docs/SCOPE.md [tse-substitute].
+-- Assumes nothing.
+use Prim.Native.Nat.{ℕ, zero, suc, _+_, _-_, _*_, _≤_, _<_}
+use mathlib.Core.Path.{_≡_, refl, ap, sym, _∙_, subst}
+use mathlib.Core.Bool.{Bool, true, false, cond, _&&_, _||_}
+use mathlib.Core.List.{List, [], _∷_, _++_}
+use mathlib.Core.Logic.{_⊎_, inl, inr, ⊎-elim}
+use lib.Dec.{ltb, leb, eqb, lit≤}
+use lib.ListN.{getD}
+use native.Mathlib.Omega.{arith}
+use native.Mathlib.Nat.{eq-or-lt-of-le, le-of-suc-le-suc}
+use borrow.Author.Tests.{leb-true, ltb-true, eqb-true, ne-eqb}
+use Rattle.gregorian.specs.Calendar.{monday, friday, sunday, dayNumber, lastYear, isDate, weekdayOf, date}
+use Rattle.gregorian.proofs.Tests.{and-left, and-right}
+use Rattle.gregorian.proofs.Laws.{days-on, is-date, date-by, month-low, number-before}
+use Rattle.utils.specs.declared.OptionalDay.{OptionalDay}
+use Rattle.utils.specs.declared.OptionalDay.the-variants.{Day, None}
+use Rattle.utils.specs.Weekday.{nthWeekdayOfMonth}
+use Rattle.utils.proofs.WeekdayLaws.{when-day, first-near, nth-weekday}
+use Rattle.days.specs.Days.{contains, insert, insertIf, insertDay, isDay}
+use Rattle.days.specs.Requires.{everyYearHas, everyBetween}
+use Rattle.japan.specs.Japan.{substituteDay, addWithSubstitute, addDayWithSubstitute, vernalDays, autumnalDays, equinox, applyGoldenWeekRules, getJapanHolidays, isWithSubstitute, isDayWithSubstitute, isBridgeDay, isHolidayToMarch, isGoldenWeekHoliday, isHolidayFromJuly, isJapanHoliday}
+use Rattle.days.proofs.DayLaws.{or-assoc, or-false, contains-none, contains-insert, contains-if, every-year-date}
+
+-- The equinoxes: what is computed of a table holds of each of its days.
+between : (low high : ℕ) (list : List ℕ) (k i : ℕ) → everyBetween low high list k ≡ true → i < k → (low ≤ getD list i 0) × (getD list i 0 ≤ high)
+between low high list zero i e h = absurd (omega arith)
+between low high list (suc k) i e h =
+    let l = leb low (getD list k 0) in
+    let u = leb (getD list k 0) high in
+    let here = and-left (l && u) _ e in
+    ⊎-elim (λ (q : i ≡ k). subst (λ (m : ℕ). (low ≤ getD list m 0) × (getD list m 0 ≤ high)) (sym q) (leb-true low _ (and-left l _ here), leb-true _ high (and-right l _ here)))
+    (λ (q : i < k). between low high list k i (and-right (l && u) _ e) q)
+    (eq-or-lt-of-le (le-of-suc-le-suc h))
+
+pub equinox-date : (days : List ℕ) (m y : ℕ) → 2020 ≤ y → y ≤ 2030 → (1 ≤ m) × (m ≤ 12) × (everyBetween 1 28 days 11 ≡ true) → isDate y m (getD days (y - 2020) 0) ≡ true
+equinox-date days m y l h k =
+    let d = between 1 28 days 11 (y - 2020) (k .2) (omega arith) in
+    date-by y m _ (omega arith, omega arith) (k .0, k .1) (d .0, omega (arith, d, month-low y m (k .0) (k .1)))
+
+day-order : (y m d e : ℕ) → d ≤ e → dayNumber y m d ≤ dayNumber y m e
+unfolding dayNumber
+day-order y m d e h = omega arith
+
+equinox-near : (days : List ℕ) (low high m y t : ℕ) → everyBetween low high days 11 ≡ true → equinox days y m ≡ Day t → (dayNumber y m low ≤ t) × (t ≤ dayNumber y m high)
+unfolding equinox
+equinox-near days low high m y t k e =
+    let c = when-day (leb 2020 y && leb y 2030) (Day (dayNumber y m (getD days (y - 2020) 0))) t e in
+    let l = leb-true 2020 y (and-left (leb 2020 y) _ (c .0)) in
+    let h = leb-true y 2030 (and-right (leb 2020 y) _ (c .0)) in
+    let d = between low high days 11 (y - 2020) k (omega arith) in
+    let q : dayNumber y m (getD days (y - 2020) 0) ≡ t = cc (c .1) in
+    (subst (λ (i : ℕ). dayNumber y m low ≤ i) q (day-order y m _ _ (d .0)), subst (λ (i : ℕ). i ≤ dayNumber y m high) q (day-order y m _ _ (d .1)))
+
+-- the nth weekday is in the first n weeks of the month
+nth-high : (y m w n t : ℕ) → nthWeekdayOfMonth y m w n ≡ Day t → 1 ≤ n → t ≤ dayNumber y m (7 * n)
+unfolding dayNumber
+nth-high y m w n t e h = omega (arith, nth-weekday y m w n t e .weeks, first-near (dayNumber y m 1) w)
+
+-- two days that every year has, one before the other
+abbrev inOrder : ℕ → ℕ → ℕ → ℕ → Bool
+inOrder m d k e = everyYearHas m d && everyYearHas k e && (ltb m k || eqb m k && ltb d e)
+
+-- Days of a list, all at most b.
+abbrev UpTo : List ℕ → ℕ → Type 0
+UpTo [] b = Unit {0}
+UpTo (d ∷ ds) b = (d ≤ b) × UpTo ds b
+
+up-to-more : (ds : List ℕ) (a b : ℕ) → a ≤ b → UpTo ds a → UpTo ds b
+up-to-more [] a b h u = tt
+up-to-more (d ∷ ds) a b h u = (omega (arith, h, u .0), up-to-more ds a b h (u .1))
+
+up-to-append : (ds : List ℕ) (d b : ℕ) → UpTo ds b → d ≤ b → UpTo (ds ++ d ∷ []) b
+up-to-append [] d b u h = (h, tt)
+up-to-append (x ∷ ds) d b u h = (u .0, up-to-append ds d b (u .1) h)
+
+up-to-insert : (ds : List ℕ) (d b : ℕ) → UpTo ds b → d ≤ b → UpTo (insert ds d) b
+unfolding insert
+up-to-insert ds d b u h = up-to-append ds d b u h
+
+up-to-if : (ds : List ℕ) (t : Bool) (d b : ℕ) → UpTo ds b → d ≤ b → UpTo (insertIf ds t d) b
+unfolding insertIf
+up-to-if ds true d b u h = up-to-insert ds d b u h
+up-to-if ds false d b u h = u
+
+-- a later day is not among them
+free : (ds : List ℕ) (b n : ℕ) → UpTo ds b → b < n → contains ds n ≡ false
+unfolding contains
+free [] b n u h = refl
+free (d ∷ ds) b n u h = simp (ne-eqb n d (λ e. omega (arith, u .0, h)), free ds b n (u .1) h)
+
+-- What is known of a list as it is built up: a test that says what it contains, and a day that none of its days is after.
+record Account (ds : List ℕ) (test : ℕ → Bool) (b : ℕ) : Type 0 where
+  same : (n : ℕ) → contains ds n ≡ test n
+  high : UpTo ds b
+
+start : Account [] (λ n. false) 0
+start = record { same = contains-none; high = tt }
+
+later : {ds : List ℕ} {test : ℕ → Bool} {a : ℕ} → Account ds test a → (b : ℕ) → a ≤ b → Account ds test b
+later {ds} {test} {a} s b h = record { same = s .same; high = up-to-more ds a b h (s .high) }
+
+put : {ds : List ℕ} {test : ℕ → Bool} {a : ℕ} → Account ds test a → (d b : ℕ) → a ≤ b → d ≤ b → Account (insert ds d) (λ n. test n || eqb n d) b
+put {ds} {test} {a} s d b h k =
+    record { same = λ n. contains-insert ds d n ∙ ap (λ (t : Bool). t || eqb n d) (s .same n); high = up-to-insert ds d b (up-to-more ds a b h (s .high)) k }
+
+-- An answer's day, and none.
+put-none : {ds : List ℕ} {test : ℕ → Bool} {a : ℕ} → Account ds test a → (b : ℕ) → a ≤ b → Account ds (λ n. test n || false) b
+put-none {ds} {test} {a} s b h =
+    record { same = λ n. s .same n ∙ sym (or-false (test n)); high = up-to-more ds a b h (s .high) }
+
+put-day : {ds : List ℕ} {test : ℕ → Bool} {a : ℕ} → Account ds test a → (r : OptionalDay) (b : ℕ) → a ≤ b → ((t : ℕ) → r ≡ Day t → t ≤ b) → Account (insertDay ds r) (λ n. test n || isDay r n) b
+unfolding insertDay
+put-day s (Day t) b h k = put s t b h (k t refl)
+put-day s None b h k = put-none s b h
+
+-- A date with its substitute, which is the next day: where the date is not before the days of the list, that day is free.
+first-attempt : (ds : List ℕ) (k n : ℕ) → contains ds n ≡ false → substituteDay ds (suc k) n ≡ Day n
+unfolding substituteDay
+first-attempt ds k n e = simp e
+
+add-by : {ds : List ℕ} {test : ℕ → Bool} {a : ℕ} → Account ds test a → (d : ℕ) → a ≤ d → (t : Bool) → Account (cond t (insertDay (insert ds d) (substituteDay (insert ds d) 7 (d + 1))) (insert ds d)) (λ n. test n || (eqb n d || t && eqb n (d + 1))) (d + 1)
+unfolding insertDay
+add-by {ds} {test} {a} s d h true =
+    let i = put s d d h (omega arith) in
+    let e = first-attempt (insert ds d) 6 (d + 1) (free (insert ds d) d (d + 1) (i .high) (omega arith)) in
+    let j = put i (d + 1) (d + 1) (omega arith) (omega arith) in
+    subst (λ (r : OptionalDay). Account (insertDay (insert ds d) r) (λ n. test n || (eqb n d || eqb n (d + 1))) (d + 1)) (sym e)
+    (record { same = λ n. j .same n ∙ sym (or-assoc (test n) (eqb n d) (eqb n (d + 1))); high = j .high })
+add-by {ds} {test} {a} s d h false =
+    let i = put s d (d + 1) (omega arith) (omega arith) in
+    record { same = λ n. i .same n ∙ ap (λ (t : Bool). test n || t) (sym (or-false (eqb n d))); high = i .high }
+
+add : {ds : List ℕ} {test : ℕ → Bool} {a : ℕ} → Account ds test a → (d : ℕ) → a ≤ d → Account (addWithSubstitute ds d) (λ n. test n || isWithSubstitute d n) (d + 1)
+unfolding addWithSubstitute
+add s d h = add-by s d h (eqb (weekdayOf d) sunday)
+
+add-day : {ds : List ℕ} {test : ℕ → Bool} {a : ℕ} → Account ds test a → (r : OptionalDay) (b : ℕ) → a ≤ b → ((t : ℕ) → r ≡ Day t → (a ≤ t) × (t + 1 ≤ b)) → Account (addDayWithSubstitute ds r) (λ n. test n || isDayWithSubstitute r n) b
+unfolding addDayWithSubstitute
+add-day s (Day t) b h k = let g = k t refl in later (add s t (g .0)) b (g .1)
+add-day s None b h k = put-none s b h
+
+-- Golden Week: the rule for a Friday 3 May and a Sunday 5 May adds what the substitute of 5 May has added.
+without : (p a b c d e : Bool) → (d ≡ true → p ≡ true) → (p || a || b || c || d || e) ≡ (p || a || (b || c || e))
+without true a b c d e h = refl
+without false a b c true e h = cc (h refl)
+without false a b c false e h = ap (λ (t : Bool). t || e) (or-false (a || b || c)) ∙ sym (or-assoc a (b || c) e ∙ ap (λ (t : Bool). t || e) (or-assoc a b c))
+
+or-true : (a : Bool) → (a || true) ≡ true
+or-true true = refl
+or-true false = refl
+
+substituted : (y n : ℕ) (q f : Bool) → (f && eqb (weekdayOf (dayNumber y 5 5)) sunday && eqb n (dayNumber y 5 6)) ≡ true → (q || isWithSubstitute (dayNumber y 5 5) n) ≡ true
+substituted y n q f e =
+    let t = eqb (weekdayOf (dayNumber y 5 5)) sunday in
+    let w = and-right f t (and-left (f && t) _ e) in
+    let k : eqb n (dayNumber y 5 5 + 1) ≡ true = ap (λ (d : ℕ). eqb n d) (sym (days-on y 5 5 1)) ∙ and-right (f && t) _ e in
+    simp (w, k, or-true)
+
+golden : {ds : List ℕ} {test : ℕ → Bool} {a : ℕ} (y : ℕ) → Account ds test a → a ≤ dayNumber y 5 5 → Account (applyGoldenWeekRules y (addWithSubstitute ds (dayNumber y 5 5))) (λ n. test n || isWithSubstitute (dayNumber y 5 5) n || eqb n (dayNumber y 5 4) || isBridgeDay y n) (dayNumber y 5 6)
+unfolding applyGoldenWeekRules isBridgeDay
+golden {ds} {test} {a} y s h =
+    let i = later (add s (dayNumber y 5 5) h) (dayNumber y 5 6) (omega (arith, days-on y 5 5 1)) in
+    let b = dayNumber y 5 6 in
+    record {
+      same = λ n. simp (contains-if, contains-insert, i .same n) (without (test n || isWithSubstitute (dayNumber y 5 5) n) _ _ _ _ _ (substituted y n (test n) (eqb (weekdayOf (dayNumber y 5 3)) friday)));
+      high = up-to-if _ _ _ b (up-to-if _ _ _ b (up-to-if _ _ _ b (up-to-if _ _ _ b (up-to-insert _ _ b (i .high) (day-order y 5 4 6 (lit≤ tt))) (day-order y 5 2 6 (lit≤ tt))) (omega arith)) (omega arith)) (omega arith);
+    }
+
+-- Each date with a substitute is later than what was inserted before it.
+before : (m d k e : ℕ) → (ltb m k || eqb m k && ltb d e) ≡ true → (m < k) ⊎ ((m ≡ k) × (d < e))
+before m d k e h = by (ltb m k) refl h
+  where
+    by : (t : Bool) → ltb m k ≡ t → (t || eqb m k && ltb d e) ≡ true → (m < k) ⊎ ((m ≡ k) × (d < e))
+    by true p q = inl (ltb-true m k p)
+    by false p q = inr (eqb-true m k (and-left (eqb m k) _ q), ltb-true d e (and-right (eqb m k) _ q))
+
+in-order : (y m d k e : ℕ) → (1 ≤ y) × (y ≤ lastYear) → inOrder m d k e ≡ true → dayNumber y m d + 1 ≤ dayNumber y k e
+in-order y m d k e h o =
+    let a = everyYearHas m d in
+    let b = everyYearHas k e in
+    let q = and-left (a && b) _ o in
+    let s = is-date y m d (every-year-date y m d (h .0, h .1, and-left a _ q)) .exists in
+    let t = is-date y k e (every-year-date y k e (h .0, h .1, and-right a _ q)) .exists in
+    let l = number-before (date y m d) (date y k e) s t (inr (refl, before m d k e (and-right (a && b) _ o))) in
+    omega (arith, l)
+
+-- The shorter account is the Rust's set, in years 1 to 9999.
+pub japan-contains : (y n : ℕ) → (1 ≤ y) × (y ≤ lastYear) → contains (getJapanHolidays y) n ≡ isJapanHoliday y n
+unfolding getJapanHolidays isHolidayToMarch isGoldenWeekHoliday isHolidayFromJuly
+japan-contains y n h =
+    let s = add start (dayNumber y 1 1) (omega arith) in
+    let s = add s (dayNumber y 1 2) (in-order y 1 1 1 2 h refl) in
+    let s = add s (dayNumber y 1 3) (in-order y 1 2 1 3 h refl) in
+    let s = put-day s _ (dayNumber y 1 14) (in-order y 1 3 1 14 h refl) (λ t e. nth-high y 1 monday 2 t e (lit≤ tt)) in
+    let s = add s (dayNumber y 2 11) (omega (arith, in-order y 1 14 2 11 h refl)) in
+    let s = add s (dayNumber y 2 23) (in-order y 2 11 2 23 h refl) in
+    let s = add-day s _ (dayNumber y 3 22) (in-order y 2 23 3 22 h refl)
+    (λ t e. omega (arith, equinox-near vernalDays 20 21 3 y t refl e, in-order y 2 23 3 20 h refl, in-order y 3 21 3 22 h refl)) in
+    let s = add s (dayNumber y 4 29) (omega (arith, in-order y 3 22 4 29 h refl)) in
+    let s = add s (dayNumber y 5 3) (in-order y 4 29 5 3 h refl) in
+    let s = golden y s (in-order y 5 3 5 5 h refl) in
+    let s = put-day s _ (dayNumber y 7 21) (omega (arith, in-order y 5 6 7 21 h refl)) (λ t e. nth-high y 7 monday 3 t e (lit≤ tt)) in
+    let s = add s (dayNumber y 8 11) (omega (arith, in-order y 7 21 8 11 h refl)) in
+    let s = put-day s _ (dayNumber y 9 21) (in-order y 8 11 9 21 h refl) (λ t e. nth-high y 9 monday 3 t e (lit≤ tt)) in
+    let s = add-day s _ (dayNumber y 9 24) (omega (arith, in-order y 9 21 9 24 h refl))
+    (λ t e. omega (arith, equinox-near autumnalDays 22 23 9 y t refl e, in-order y 9 21 9 22 h refl, in-order y 9 23 9 24 h refl)) in
+    let s = put-day s _ (dayNumber y 10 14) (omega (arith, in-order y 9 24 10 14 h refl)) (λ t e. nth-high y 10 monday 2 t e (lit≤ tt)) in
+    let s = add s (dayNumber y 11 3) (omega (arith, in-order y 10 14 11 3 h refl)) in
+    let s = add s (dayNumber y 11 23) (in-order y 11 3 11 23 h refl) in
+    let s = put s (dayNumber y 12 31) (dayNumber y 12 31) (in-order y 11 23 12 31 h refl) (omega arith) in
+    s .same n ∙ simp or-assoc
