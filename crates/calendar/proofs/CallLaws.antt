@@ -1,22 +1,29 @@
 -- The laws of the checks: what each case answers, and what becomes of the day or of the error.
 -- Assumes nothing.
 use Prim.Native.Nat.{ℕ, _≤_, _<_}
-use mathlib.Core.Path.{_≡_, refl, ap, _∙_, subst}
+use mathlib.Core.Path.{_≡_, refl, ap, sym, _∙_, subst}
 use mathlib.Core.Bool.{Bool, true, false, cond, not}
 use lib.Dec.{ltb}
 use borrow.Author.Tests.{lt-ltb, le-ltb, not-false}
 use Rattle.gregorian.specs.Calendar.{lastDay, isDate, date, dayNumber}
 use Rattle.gregorian.proofs.Laws.{number-range}
-use Rattle.calendar.specs.declared.error.CalendarError.{CalendarError}
-use Rattle.calendar.specs.declared.error.CalendarError.the-variants.{UnknownMarket, InvalidDate, DateOutOfRange}
+use Rattle.error.specs.declared.CalendarError.{CalendarError}
+use Rattle.error.specs.declared.CalendarError.the-variants.{UnknownMarket, InvalidDate, TimeOutOfRange, DateOutOfRange}
 use Rattle.calendar.specs.declared.DayResult.{DayResult}
-use Rattle.calendar.specs.declared.BoolResult.{BoolResult}
-use Rattle.calendar.specs.Calls.{isSupported, checkedDay, mapResult}
+use Rattle.calendar.specs.Calls.{isSupported, tryDay, checkedDay, supportedDay}
 
 -- where there is a day, there was no error
 no-error : (b : Bool) (e : CalendarError) (x : DayResult) (n : ℕ) → cond b (DayResult.Err e) x ≡ DayResult.Ok n → (b ≡ false) × (x ≡ DayResult.Ok n)
 no-error true e x n q = (cc, cc)
 no-error false e x n q = (refl, q)
+
+-- what follows a day, and an error
+module _ {A : Type 0} (error : CalendarError → A) (rest : ℕ → A) (r : DayResult) where
+  pub after-day : (n : ℕ) (a : A) → DayResult.Ok n ≡ r → a ≡ rest n → a ≡ tryDay r error rest
+  after-day n a q e = e ∙ ap (λ (d : DayResult). tryDay d error rest) q
+
+  pub after-day-error : (e : CalendarError) → DayResult.Err e ≡ r → error e ≡ tryDay r error rest
+  after-day-error e q = ap (λ (d : DayResult). tryDay d error rest) q
 
 module _ (market year month day : ℕ) where
   pub error-8 : 4 < market → checkedDay market year month day ≡ DayResult.Err UnknownMarket
@@ -27,27 +34,49 @@ module _ (market year month day : ℕ) where
   unfolding checkedDay
   error-5 h d = simp (le-ltb 4 market h, d)
 
-  pub error-1 : market ≤ 4 → isDate year month day ≡ true → isSupported year ≡ false → checkedDay market year month day ≡ DayResult.Err (DateOutOfRange (date year month day))
+  pub checked : market ≤ 4 → isDate year month day ≡ true → checkedDay market year month day ≡ DayResult.Ok (dayNumber year month day)
   unfolding checkedDay
-  error-1 h d s = simp (le-ltb 4 market h, d, s)
+  checked h d = simp (le-ltb 4 market h, d)
 
-  pub checked : market ≤ 4 → isDate year month day ≡ true → isSupported year ≡ true → checkedDay market year month day ≡ DayResult.Ok (dayNumber year month day)
+  -- The day past errors 8 and 5 is that of a date.
+  pub checked-date : (n : ℕ) → checkedDay market year month day ≡ DayResult.Ok n → (isDate year month day ≡ true) × (dayNumber year month day ≡ n)
   unfolding checkedDay
-  checked h d s = simp (le-ltb 4 market h, d, s)
-
-  -- The day past the checks is that of a date.
-  pub day-in-years : (n : ℕ) → checkedDay market year month day ≡ DayResult.Ok n → (1 ≤ n) × (n ≤ lastDay)
-  unfolding checkedDay
-  day-in-years n e =
+  checked-date n e =
       let past₈ = no-error (ltb 4 market) _ _ n e in
       let past₅ = no-error (not (isDate year month day)) _ _ n (past₈ .1) in
-      let past₁ = no-error (not (isSupported year)) _ _ n (past₅ .1) in
-      let q : dayNumber year month day ≡ n = cc (past₁ .1) in
-      subst (λ (i : ℕ). (1 ≤ i) × (i ≤ lastDay)) q (number-range year month day (not-false _ (past₅ .0)))
+      (not-false _ (past₅ .0), cc (past₅ .1))
 
-  -- what `mapResult` makes of a day, and of an error
-  pub after-ok : (f : ℕ → Bool) (n : ℕ) (b : Bool) → DayResult.Ok n ≡ checkedDay market year month day → b ≡ f n → BoolResult.Ok b ≡ mapResult f (checkedDay market year month day)
-  after-ok f n b q e = ap BoolResult.Ok e ∙ ap (mapResult f) q
+  module _ (inRange : Bool) where
+    abbrev past-checks : ℕ → DayResult
+    past-checks n =
+        cond (not inRange) (DayResult.Err TimeOutOfRange)
+        (cond (not (isSupported year)) (DayResult.Err (DateOutOfRange (date year month day))) (DayResult.Ok n))
 
-  pub after-err : (f : ℕ → Bool) (e : CalendarError) → DayResult.Err e ≡ checkedDay market year month day → BoolResult.Err e ≡ mapResult f (checkedDay market year month day)
-  after-err f e q = ap (mapResult f) q
+    module _ (n : ℕ) (q : DayResult.Ok n ≡ checkedDay market year month day) where
+      pub error-7 : inRange ≡ false → DayResult.Err TimeOutOfRange ≡ supportedDay market year month day inRange
+      unfolding supportedDay
+      error-7 r = after-day DayResult.Err past-checks _ n _ q (simp r)
+
+      pub error-1 : inRange ≡ true → isSupported year ≡ false → DayResult.Err (DateOutOfRange (date year month day)) ≡ supportedDay market year month day inRange
+      unfolding supportedDay
+      error-1 r s = after-day DayResult.Err past-checks _ n _ q (simp (r, s))
+
+      pub supported : inRange ≡ true → isSupported year ≡ true → DayResult.Ok n ≡ supportedDay market year month day inRange
+      unfolding supportedDay
+      supported r s = after-day DayResult.Err past-checks _ n _ q (simp (r, s))
+
+    -- The day past all four is that of the first two.
+    supported-checked : (r : DayResult) (n : ℕ) → tryDay r DayResult.Err past-checks ≡ DayResult.Ok n → r ≡ DayResult.Ok n
+    supported-checked (DayResult.Ok k) n q =
+        let past₇ = no-error (not inRange) _ _ n q in
+        no-error (not (isSupported year)) _ _ n (past₇ .1) .1
+    supported-checked (DayResult.Err e) n q = cc
+
+    pub supported-day : (n : ℕ) → supportedDay market year month day inRange ≡ DayResult.Ok n → checkedDay market year month day ≡ DayResult.Ok n
+    unfolding supportedDay
+    supported-day n e = supported-checked (checkedDay market year month day) n e
+
+    pub day-in-years : (n : ℕ) → supportedDay market year month day inRange ≡ DayResult.Ok n → (1 ≤ n) × (n ≤ lastDay)
+    day-in-years n e =
+        let d = checked-date n (supported-day n e) in
+        subst (λ (i : ℕ). (1 ≤ i) × (i ≤ lastDay)) (d .1) (number-range year month day (d .0))

@@ -4,11 +4,18 @@ use mathlib.Core.Bool.{Bool, true, false}
 use Rattle.gregorian.specs.Calendar.{noDate, dateOf}
 use Rattle.utils.specs.declared.OptionalDay.{OptionalDay}
 use Rattle.utils.specs.declared.OptionalDay.the-variants.{Day, None}
-use Rattle.calendar.specs.declared.BoolResult.{BoolResult}
-use Rattle.calendar.specs.declared.BoolResult.the-variants.{Ok, Err}
-use Rattle.calendar.specs.Errors.{errorNumber, errorDate}
+use Rattle.schedule.specs.declared.SessionResult.{SessionResult}
+use Rattle.schedule.specs.declared.HoursResult.{HoursResult}
+use Rattle.schedule.specs.Schedule.{session}
+use Rattle.error.specs.declared.BoolResult.{BoolResult}
+use Rattle.error.specs.declared.TimeResult.{TimeResult}
+use Rattle.error.specs.Errors.{errorNumber, errorDate}
 use Rattle.trading_calendar.specs.declared.OptionalDate.{OptionalDate}
 use Rattle.trading_calendar.specs.declared.BoolAnswer.{BoolAnswer}
+use Rattle.trading_calendar.specs.declared.trading_hours.TimeAnswer.{TimeAnswer}
+use Rattle.trading_calendar.specs.declared.trading_hours.SessionAnswer.{SessionAnswer}
+use Rattle.trading_calendar.specs.declared.trading_hours.HoursAnswer.{HoursAnswer}
+use Rattle.trading_calendar.specs.Records.{hoursOf, noHours}
 
 -- A day is found with its date; of none every field is 0.
 unfoldable pub optionalDate : OptionalDay → OptionalDate
@@ -22,5 +29,18 @@ flagOf false = 0
 
 -- Without an error, yes or no; an error has its number and the date that is returned with it. Every other field is 0.
 unfoldable pub boolAnswer : BoolResult → BoolAnswer
-boolAnswer (Ok b) = record { error = 0; value = flagOf b; date = noDate }
-boolAnswer (Err e) = record { error = errorNumber e; value = 0; date = errorDate e }
+boolAnswer (BoolResult.Ok b) = record { error = 0; value = flagOf b; date = noDate }
+boolAnswer (BoolResult.Err e) = record { error = errorNumber e; value = 0; date = errorDate e }
+
+-- Without an error, the value; an error has its number, and every other field is 0.
+unfoldable pub timeAnswer : TimeResult → TimeAnswer
+timeAnswer (TimeResult.Ok time) = record { error = 0; seconds = time }
+timeAnswer (TimeResult.Err e) = record { error = errorNumber e; seconds = 0 }
+
+unfoldable pub sessionAnswer : SessionResult → SessionAnswer
+sessionAnswer (SessionResult.Ok s) = record { error = 0; session = s }
+sessionAnswer (SessionResult.Err e) = record { error = errorNumber e; session = session 0 0 }
+
+unfoldable pub hoursAnswer : HoursResult → HoursAnswer
+hoursAnswer (HoursResult.Ok hours) = record { error = 0; hours = hoursOf hours }
+hoursAnswer (HoursResult.Err e) = record { error = errorNumber e; hours = noHours }

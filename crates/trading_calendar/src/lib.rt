@@ -1,12 +1,14 @@
 // The calls that a host in C or Rust makes, and the structs of their answers. Every call takes every number, so none has a
 // `requires`. Labels in brackets are those of docs/SCOPE.md.
+pub mod records;
+pub mod trading_hours;
+
 ghost use mathlib.Core.Path.{_≡_};
 ghost use Rattle.utils.specs.Weekday.{InYears, nthWeekdayOfMonth, lastWeekdayOfMonth};
 ghost use Rattle.utils.specs.Easter.{calculateEaster, calculateGoodFriday, calculateEasterMonday};
 ghost use Rattle.calendar.specs.Calls.{isTradingDayResult, isHolidayResult};
 ghost use Rattle.trading_calendar.specs.Answers.{optionalDate, flagOf, boolAnswer};
-use calendar::BoolResult;
-use calendar::error;
+use error::BoolResult;
 use gregorian::Date;
 use gregorian::NO_DATE;
 use utils::OptionalDay;

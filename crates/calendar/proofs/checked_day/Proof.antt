@@ -7,7 +7,7 @@ use borrow.Author.Tests.{not-true, not-false}
 use borrow.Author.Needs.{needs}
 use Rattle.gregorian.specs.Calendar.{isDate}
 use Rattle.calendar.specs.declared.DayResult.{DayResult}
-use Rattle.calendar.proofs.CallLaws.{error-8, error-5, error-1, checked}
+use Rattle.calendar.proofs.CallLaws.{error-8, error-5, checked}
 use Rattle.calendar.proofs.checked_day.Statement.{statement}
 use Rattle.calendar.proofs.checked_day.Tie as tie
 
@@ -24,20 +24,14 @@ returns c = sym (error-8 _ _ _ _ (omega arith))
 returns-2 : tie.Need-returns-2
 returns-2 c = sym (error-5 _ _ _ _ (is-market (c .before)) (sym (c .before .before .is-date .ensures) ∙ not-true _ (c .if2 .taken)))
 
+day-number-requires : tie.Need-day-number-requires
+day-number-requires c κs = is-date c
+
 returns-3 : tie.Need-returns-3
 returns-3 c =
-    let s = c .before .before in
-    sym (error-1 _ _ _ _ (is-market (s .before)) (is-date s) (sym (c .before .is-supported .ensures) ∙ not-true _ (c .if3 .taken)))
-
-day-number-requires : tie.Need-day-number-requires
-day-number-requires c κs = is-date (c .before .before)
-
-returns-4 : tie.Need-returns-4
-returns-4 c =
-    let s = c .before .before .before in
-    ap DayResult.Ok (c .day-number .ensures) ∙ sym (checked _ _ _ _ (is-market (s .before)) (is-date s) (sym (c .before .before .is-supported .ensures) ∙ not-false _ (c .before .if3 .left)))
+    ap DayResult.Ok (c .day-number .ensures) ∙ sym (checked _ _ _ _ (is-market (c .before .before)) (is-date (c .before)))
 
 pub checked-day-spec : {M : Type 1} → statement M
 checked-day-spec =
     tie.close
-    (tie.spec (search needs) returns returns-2 (search needs) returns-3 day-number-requires returns-4)
+    (tie.spec (search needs) returns returns-2 day-number-requires returns-3)

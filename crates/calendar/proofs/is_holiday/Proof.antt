@@ -1,19 +1,22 @@
 -- `calendar::is_holiday` meets its contract: the day past the checks is that of a date, and an error stays.
-use mathlib.Core.Path.{sym, _∙_}
+use mathlib.Core.Path.{ap, sym, _∙_}
+use mathlib.Core.Bool.{true}
 use borrow.Author.Needs.{needs}
-use Rattle.markets.specs.Markets.{isHoliday}
-use Rattle.calendar.proofs.CallLaws.{day-in-years, after-ok, after-err}
+use Rattle.error.specs.declared.BoolResult.{BoolResult}
+use Rattle.calendar.proofs.CallLaws.{day-in-years, after-day, after-day-error}
 use Rattle.calendar.proofs.is_holiday.Statement.{statement}
 use Rattle.calendar.proofs.is_holiday.Tie as tie
 
 is-holiday-requires : tie.Need-is-holiday-requires
-is-holiday-requires c κs = day-in-years _ _ _ _ _ (sym (c .before .before .before .checked-day .ensures) ∙ c .before .n .given .1)
+is-holiday-requires c κs = day-in-years _ _ _ _ true _ (sym (c .before .before .before .supported-day .ensures) ∙ c .before .n .given .1)
 
 returns : tie.Need-returns
-returns c = after-ok _ _ _ _ (isHoliday _) _ _ (sym (c .before .before .n .given .1) ∙ c .before .before .before .before .checked-day .ensures) (c .is-holiday .ensures)
+returns c =
+    after-day _ _ _ _ _ (sym (c .before .before .n .given .1) ∙ c .before .before .before .before .supported-day .ensures)
+    (ap BoolResult.Ok (c .is-holiday .ensures))
 
 returns-2 : tie.Need-returns-2
-returns-2 c = after-err _ _ _ _ (isHoliday _) _ (sym (c .before .e .given .1) ∙ c .before .before .before .checked-day .ensures)
+returns-2 c = after-day-error _ _ _ _ (sym (c .before .e .given .1) ∙ c .before .before .before .supported-day .ensures)
 
 pub is-holiday-spec : {M : Type 1} → statement M
 is-holiday-spec =

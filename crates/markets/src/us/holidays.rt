@@ -96,13 +96,19 @@ fn is_labor_day(year: u32, n: u32) -> bool
 }
 
 // The 4th Thursday of November.
+pub fn thanksgiving_day(year: u32) -> OptionalDay
+    ensures { λ r. ⌜ r ≡ thanksgivingDay year ⌝ }
+{
+    nth_weekday_of_month(year, 11, THURSDAY, 4)
+}
+
 fn is_thanksgiving_day(year: u32, n: u32) -> bool
     ensures { λ r. ⌜ r ≡ isDay (thanksgivingDay year) n ⌝ }
 {
-    let OptionalDay::Day(thanksgiving_day) = nth_weekday_of_month(year, 11, THURSDAY, 4) else {
+    let OptionalDay::Day(thanksgiving) = thanksgiving_day(year) else {
         return false;
     };
-    n == thanksgiving_day
+    n == thanksgiving
 }
 
 // 19 June, on Monday if on a weekend, from 2021 on.

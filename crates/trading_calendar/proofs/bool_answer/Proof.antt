@@ -3,7 +3,7 @@ use Prim.Native.Nat.{ℕ}
 use mathlib.Core.Path.{_≡_, ap, _∙_}
 use borrow.Author.Needs.{needs}
 use Rattle.gregorian.specs.Calendar.{noDate}
-use Rattle.calendar.specs.declared.BoolResult.the-variants.{Ok, Err}
+use Rattle.error.specs.declared.BoolResult.the-variants.{Ok, Err}
 use Rattle.trading_calendar.specs.declared.BoolAnswer.{BoolAnswer}
 use Rattle.trading_calendar.specs.Answers.{boolAnswer}
 use Rattle.trading_calendar.proofs.bool_answer.Statement.{statement}

@@ -6,10 +6,10 @@ use Rattle.markets.proofs.us.holidays.is_thanksgiving_day.Statement.{st
 use Rattle.markets.proofs.us.holidays.is_thanksgiving_day.Tie as tie
 
 returns : tie.Need-returns
-returns c = none-is _ _ (sym (c .enum-told .given .1) ∙ c .before .before .nth-weekday-of-month .ensures)
+returns c = none-is _ _ (sym (c .enum-told .given .1) ∙ c .before .before .thanksgiving-day .ensures)
 
 returns-2 : tie.Need-returns-2
-returns-2 c = day-is _ _ _ (sym (c .before .thanksgiving-day .given .1) ∙ c .before .before .before .nth-weekday-of-month .ensures)
+returns-2 c = day-is _ _ _ (sym (c .before .thanksgiving .given .1) ∙ c .before .before .before .thanksgiving-day .ensures)
 
 pub is-thanksgiving-day-spec : {M : Type 1} → statement M
 is-thanksgiving-day-spec = tie.close (tie.spec (search needs) (search needs) (search needs) returns returns-2)

@@ -2,16 +2,23 @@
 use Prim.Native.Nat.{ℕ}
 use Rattle.gregorian.specs.declared.Date.{Date}
 use Rattle.gregorian.specs.Calendar.{noDate}
-use Rattle.calendar.specs.declared.error.CalendarError.{CalendarError}
-use Rattle.calendar.specs.declared.error.CalendarError.the-variants.{UnknownMarket, InvalidDate, DateOutOfRange}
+use Rattle.error.specs.declared.CalendarError.{CalendarError}
+use Rattle.error.specs.declared.CalendarError.the-variants.{UnknownMarket, InvalidDate, TimeOutOfRange, DateOutOfRange, InvalidSession, InvalidTime}
 
+-- InvalidTime is the error of an early close that is not before the regular end, as in the Rust.
 unfoldable pub errorNumber : CalendarError → ℕ
 errorNumber UnknownMarket = 8
 errorNumber InvalidDate = 5
+errorNumber TimeOutOfRange = 7
 errorNumber (DateOutOfRange t) = 1
+errorNumber InvalidSession = 3
+errorNumber InvalidTime = 4
 
 -- the date that is returned with an error; no date where nothing is
 unfoldable pub errorDate : CalendarError → Date
 errorDate UnknownMarket = noDate
 errorDate InvalidDate = noDate
+errorDate TimeOutOfRange = noDate
 errorDate (DateOutOfRange t) = t
+errorDate InvalidSession = noDate
+errorDate InvalidTime = noDate

@@ -1,0 +1,66 @@
+-- The hours of each market, as the mod.rs of src/markets have them, with the seconds of src/constants.rs: docs/SCOPE.md
+-- [hours], [trading-hours], [early-close]. Assumes nothing.
+use Prim.Native.Nat.{ℕ, _+_}
+use mathlib.Core.Bool.{Bool, cond, not, _&&_, _||_}
+use mathlib.Core.List.{List, [], _∷_}
+use lib.Dec.{eqb}
+use lib.ListN.{getD}
+use Rattle.gregorian.specs.declared.Date.{Date}
+use Rattle.gregorian.specs.Calendar.{dayNumber}
+use Rattle.utils.specs.declared.OptionalDay.{OptionalDay}
+use Rattle.utils.specs.Weekday.{mapDay}
+use Rattle.days.specs.Days.{isDay}
+use Rattle.markets.specs.Markets.{isWeekend}
+use Rattle.markets.specs.Us.{thanksgivingDay}
+use Rattle.schedule.specs.declared.OptionalSession.{OptionalSession}
+use Rattle.schedule.specs.declared.OptionalTime.{OptionalTime}
+use Rattle.schedule.specs.declared.TradingHours.{TradingHours}
+use Rattle.schedule.specs.Schedule.{session, hoursNew}
+
+-- the day after Thanksgiving
+abbrev pub blackFriday : ℕ → OptionalDay
+blackFriday year = mapDay (λ n. n + 1) (thanksgivingDay year)
+
+-- USMarket::is_early_close_day: the day after Thanksgiving; 3 July if the 4th is a weekday; 24 December on a weekday
+unfoldable pub isEarlyCloseDay : Date → Bool
+isEarlyCloseDay date =
+    let n = dayNumber (date .year) (date .month) (date .day) in
+    isDay (blackFriday (date .year)) n
+    || eqb (date .month) 7 && eqb (date .day) 3 && not (isWeekend (n + 1))
+    || eqb (date .month) 12 && eqb (date .day) 24 && not (isWeekend n)
+
+-- USMarket::trading_hours: 9:30 to 16:00, pre-market from 4:00, after-hours to 20:00; on an early close to 13:00, with the
+-- after-hours from then on
+unfoldable pub usTradingHours : Date → TradingHours
+usTradingHours date =
+    let regular = session 34200 57600 in
+    let pre = OptionalSession.Some (session 14400 34200) in
+    cond (isEarlyCloseDay date)
+    (record {
+      date = date;
+      «pre_market» = pre;
+      regular = regular;
+      «after_hours» = OptionalSession.Some (session 46800 72000);
+      «early_close» = OptionalTime.Some 46800;
+    })
+    (hoursNew date regular pre (OptionalSession.Some (session 57600 72000)))
+
+-- LSEMarket::trading_hours: 8:00 to 16:30
+abbrev pub lseTradingHours : Date → TradingHours
+lseTradingHours date = hoursNew date (session 28800 59400) OptionalSession.None OptionalSession.None
+
+-- TSEMarket::trading_hours: 9:00 to 15:00
+abbrev pub tseTradingHours : Date → TradingHours
+tseTradingHours date = hoursNew date (session 32400 54000) OptionalSession.None OptionalSession.None
+
+-- TSXMarket::trading_hours: 9:30 to 16:00
+abbrev pub tsxTradingHours : Date → TradingHours
+tsxTradingHours date = hoursNew date (session 34200 57600) OptionalSession.None OptionalSession.None
+
+-- in the order of the codes, NYSE, NASDAQ, LSE, TSE, TSX
+abbrev pub hoursByCode : List (Date → TradingHours)
+hoursByCode = usTradingHours ∷ usTradingHours ∷ lseTradingHours ∷ tseTradingHours ∷ tsxTradingHours ∷ []
+
+-- TradingCalendar::trading_hours; no call comes here with a code above 4
+unfoldable pub tradingHours : ℕ → Date → TradingHours
+tradingHours market = getD hoursByCode market tsxTradingHours
