@@ -1,5 +1,5 @@
-/* Prints the moving days of a year that the markets' rules rest on, and for each market its trading days, counted, and its
- * holidays, be they on weekends or not: usage: example YEAR. */
+/* Prints the moving days of a year that the markets' rules rest on; for each market its regular hours, its trading days, counted,
+ * and its holidays, be they on weekends or not; and when NYSE closes early: usage: example YEAR. */
 #include "trading_calendar.h"
 
 #include <stdio.h>
@@ -30,13 +30,23 @@ static int count_trading_days(uint32_t market, uint32_t year) {
     return count;
 }
 
-static void print_holidays(uint32_t market, uint32_t year) {
+static int is_holiday(uint32_t market, uint32_t year, uint32_t month, uint32_t day) {
+    return tc_is_holiday(market, year, month, day).value == 1;
+}
+
+/* The hours of a date do not say whether it is a trading day. */
+static int trades_and_closes_early(uint32_t market, uint32_t year, uint32_t month, uint32_t day) {
+    return tc_is_trading_day(market, year, month, day).value == 1 &&
+           tc_is_early_close(tc_trading_hours(market, year, month, day).hours).value == 1;
+}
+
+static void print_days(int (*is_wanted)(uint32_t, uint32_t, uint32_t, uint32_t), uint32_t market, uint32_t year) {
     static const char *const months[] = {"Jan", "Feb", "Mar", "Apr", "May", "Jun", "Jul", "Aug", "Sep", "Oct", "Nov", "Dec"};
     const char *separator = "";
     for (uint32_t month = 1; month <= 12; month++) {
         int is_first = 1;
         for (uint32_t day = 1; day <= 31; day++) {
-            if (tc_is_holiday(market, year, month, day).value == 0) continue;
+            if (!is_wanted(market, year, month, day)) continue;
             if (is_first) printf("%s%s", separator, months[month - 1]);
             printf(" %lu", (unsigned long)day);
             is_first = 0;
@@ -46,6 +56,24 @@ static void print_holidays(uint32_t market, uint32_t year) {
     printf("\n");
 }
 
+static void print_time(uint32_t seconds) {
+    printf("%02lu:%02lu", (unsigned long)seconds / 3600, (unsigned long)seconds / 60 % 60);
+}
+
+static void print_regular_hours(uint32_t market, uint32_t year) {
+    tc_session regular = tc_trading_hours(market, year, 1, 1).hours.regular;
+    print_time(regular.start);
+    printf(" to ");
+    print_time(regular.end);
+}
+
+static void print_nyse(uint32_t year) {
+    enum { NYSE = 0, TEN = 36000 };
+    printf("NYSE closes early on: ");
+    print_days(trades_and_closes_early, NYSE, year);
+    printf("NYSE on Dec 24 at 10:00: %s\n", tc_is_open(NYSE, year, 12, 24, TEN).value == 1 ? "open" : "closed");
+}
+
 static void print_markets(uint32_t year) {
     static const char *const names[] = {"NYSE", "NASDAQ", "LSE", "TSE", "TSX"};
     if (tc_is_holiday(0, year, 1, 1).error != 0) {
@@ -53,9 +81,12 @@ static void print_markets(uint32_t year) {
         return;
     }
     for (uint32_t market = 0; market < 5; market++) {
-        printf("%-6s %d trading days; holidays: ", names[market], count_trading_days(market, year));
-        print_holidays(market, year);
+        printf("%-6s ", names[market]);
+        print_regular_hours(market, year);
+        printf("; %d trading days; holidays: ", count_trading_days(market, year));
+        print_days(is_holiday, market, year);
     }
+    print_nyse(year);
 }
 
 int main(int argc, char **argv) {

@@ -4,7 +4,7 @@
 #include <stdio.h>
 #include <stdlib.h>
 
-enum { WEEKDAYS = 7, SUNDAY = 6, MARCH = 3, DECEMBER = 12 };
+enum { WEEKDAYS = 7 };
 
 /* A day, and its place among the days of its weekday. */
 typedef struct {
@@ -17,7 +17,7 @@ typedef struct {
 static row days[ROWS];
 
 /* The row of the first day of each month. */
-static int month_start[LAST_YEAR + 1][DECEMBER + 1];
+static int month_start[LAST_YEAR + 1][DEC + 1];
 
 /* For each weekday the rows of its days in order, and how many there are. */
 static int of_weekday[WEEKDAYS][ROWS / WEEKDAYS + 1];
@@ -30,11 +30,11 @@ static int is_leap(int year) {
 }
 
 static void fill_days(void) {
-    static const int lengths[DECEMBER + 1] = {0, 31, 28, 31, 30, 31, 30, 31, 31, 30, 31, 30, 31};
+    static const int lengths[DEC + 1] = {0, 31, 28, 31, 30, 31, 30, 31, 31, 30, 31, 30, 31};
     int next = 0;
 
     for (int year = 1; year <= LAST_YEAR; year++) {
-        for (int month = 1; month <= DECEMBER; month++) {
+        for (int month = 1; month <= DEC; month++) {
             int length = month == 2 && is_leap(year) ? 29 : lengths[month];
             month_start[year][month] = next;
             for (int day = 1; day <= length && next < ROWS; day++, next++) {
@@ -66,6 +66,7 @@ void plain_fill(void) {
     fill_days();
     fill_weekdays();
     plain_fill_holidays();
+    plain_fill_early_closes();
 }
 
 static tc_optional_date none(void) {
@@ -80,7 +81,7 @@ static tc_optional_date found(int r) {
 
 static int is_year(uint32_t year) { return 1 <= year && year <= LAST_YEAR; }
 
-static int is_month(uint32_t year, uint32_t month) { return is_year(year) && 1 <= month && month <= DECEMBER; }
+static int is_month(uint32_t year, uint32_t month) { return is_year(year) && 1 <= month && month <= DEC; }
 
 int plain_row(uint32_t year, uint32_t month, uint32_t day) {
     int r;
@@ -105,8 +106,8 @@ tc_optional_date plain_nth_weekday_of_month(uint32_t year, uint32_t month, uint3
 tc_optional_date plain_last_weekday_of_month(uint32_t year, uint32_t month, uint32_t weekday) {
     int r;
     if (!is_month(year, month) || weekday >= WEEKDAYS) return none();
-    if (year == LAST_YEAR && month == DECEMBER) return none();
-    r = month == DECEMBER ? month_start[year + 1][1] : month_start[year][month + 1];
+    if (year == LAST_YEAR && month == DEC) return none();
+    r = month == DEC ? month_start[year + 1][1] : month_start[year][month + 1];
     do r--;
     while (days[r].weekday != weekday);
     return found(r);
@@ -138,9 +139,9 @@ static int easter_row(int year) {
     /* Full moon on day 44 - epact of March, or a lunar month later if that is before the 21st. */
     march_day = 44 - epact;
     if (march_day < 21) march_day += 30;
-    r = month_start[year][MARCH] + march_day - 1;
+    r = month_start[year][MAR] + march_day - 1;
     do r++;
-    while (days[r].weekday != SUNDAY);
+    while (days[r].weekday != SUN);
     return r;
 }
 

@@ -16,13 +16,27 @@ tc_optional_date plain_calculate_good_friday(uint32_t year);
 tc_optional_date plain_calculate_easter_monday(uint32_t year);
 tc_bool_result plain_is_trading_day(uint32_t market, uint32_t year, uint32_t month, uint32_t day);
 tc_bool_result plain_is_holiday(uint32_t market, uint32_t year, uint32_t month, uint32_t day);
+tc_hours_result plain_trading_hours(uint32_t market, uint32_t year, uint32_t month, uint32_t day);
+tc_bool_result plain_is_open(uint32_t market, uint32_t year, uint32_t month, uint32_t day, uint32_t time);
+tc_session_result plain_session_new(uint32_t start, uint32_t end);
+tc_bool_result plain_session_contains(tc_session session, uint32_t time);
+tc_hours_result plain_trading_hours_new(uint32_t year, uint32_t month, uint32_t day, tc_session regular, uint32_t has_pre_market,
+                                        tc_session pre_market, uint32_t has_after_hours, tc_session after_hours);
+tc_hours_result plain_with_early_close(tc_hours hours, uint32_t time);
+tc_bool_result plain_is_early_close(tc_hours hours);
+tc_time_result plain_market_close(tc_hours hours);
+tc_bool_result plain_is_open_at(tc_hours hours, uint32_t time);
 
-/* For plain_holidays.c: the size of the table; the row of a date, or -1 if there is no such date; the weekday of a row. */
-enum { LAST_YEAR = 9999, ROWS = 3652059 };
+/* For the parts of the plain calendar: the size of the table; the row of a date, or -1 if there is no such date; the weekday of
+ * a row. */
+enum { LAST_YEAR = 9999, ROWS = 3652059, MARKETS = 5 };
+enum { JAN = 1, FEB, MAR, APR, MAY, JUN, JUL, AUG, SEP, OCT, NOV, DEC };
+enum { MON, TUE, WED, THU, FRI, SAT, SUN };
 int plain_row(uint32_t year, uint32_t month, uint32_t day);
 int plain_weekday(int row);
 
-/* For plain_fill: enters the holidays, once the days are there. */
+/* For plain_fill: enter the holidays and the early closes, once the days are there. */
 void plain_fill_holidays(void);
+void plain_fill_early_closes(void);
 
 #endif

@@ -8,9 +8,7 @@
 #define LENGTH(list) (sizeof(list) / sizeof(list)[0])
 
 /* Markets as sets: bit m stands for market m [markets]. */
-enum { MARKETS = 5, US = 1 << 0 | 1 << 1, LSE = 1 << 2, TSE = 1 << 3, TSX = 1 << 4 };
-enum { JAN = 1, FEB, MAR, APR, MAY, JUN, JUL, AUG, SEP, OCT, NOV, DEC };
-enum { MON, TUE, WED, THU, FRI, SAT, SUN };
+enum { US = 1 << 0 | 1 << 1, LSE = 1 << 2, TSE = 1 << 3, TSX = 1 << 4 };
 
 /* For each row the markets that have a holiday on it. */
 static uint8_t closed[ROWS];

@@ -1,103 +1,47 @@
-/* Compares every call of the library with the plain calendar, and with the examples of docs/SCOPE.md. Prints a line for each
- * call; fails if any answer differs or not all were compared. */
+/* Compares the calls about weekdays, Easter, trading days and holidays with the plain calendar, and with the examples of
+ * docs/SCOPE.md. Prints a line for each call; fails if any answer differs or not all were compared. */
+#include "compare.h"
 #include "plain_calendar.h"
 #include "trading_calendar.h"
 
-#include <stdio.h>
-#include <string.h>
-
-#define LENGTH(list) (sizeof(list) / sizeof(list)[0])
-
 enum call { NTH, LAST, EASTER, GOOD_FRIDAY, EASTER_MONDAY, TRADING_DAY, HOLIDAY, CALLS };
 
-static const char *const names[CALLS] = {
-    "tc_nth_weekday_of_month", "tc_last_weekday_of_month", "tc_calculate_easter", "tc_calculate_good_friday",
-    "tc_calculate_easter_monday", "tc_is_trading_day", "tc_is_holiday",
+/* The calls, and how many comparisons the loops below make. */
+static tally calls[CALLS] = {
+    [NTH] = {.name = "tc_nth_weekday_of_month", .meant = 9999ul * 12 * 7 * 12 + 15ul * 12 * 7 * 256 + 23ul * 23 * 23 * 7 + 1},
+    [LAST] = {.name = "tc_last_weekday_of_month", .meant = 9999ul * 12 * 7 + 23ul * 23 * 23 + 1},
+    [EASTER] = {.name = "tc_calculate_easter", .meant = 9999ul + 23 + 3},
+    [GOOD_FRIDAY] = {.name = "tc_calculate_good_friday", .meant = 9999ul + 23},
+    [EASTER_MONDAY] = {.name = "tc_calculate_easter_monday", .meant = 9999ul + 23},
+    [TRADING_DAY] = {.name = "tc_is_trading_day", .meant = (8ul * 13 + 10001) * 14 * 33 + 23ul * 23 * 23 * 23 + 4},
+    [HOLIDAY] = {.name = "tc_is_holiday", .meant = (8ul * 13 + 10001) * 14 * 33 + 23ul * 23 * 23 * 23 + 2},
 };
-
-/* How many comparisons the loops below make, so that a loop cut short is seen. */
-static const unsigned long expected_count[CALLS] = {
-    9999ul * 12 * 7 * 12 + 15ul * 12 * 7 * 256 + 23ul * 23 * 23 * 7 + 1,
-    9999ul * 12 * 7 + 23ul * 23 * 23 + 1,
-    9999ul + 23 + 3,
-    9999ul + 23,
-    9999ul + 23,
-    (8ul * 13 + 10001) * 14 * 33 + 23ul * 23 * 23 * 23 + 4,
-    (8ul * 13 + 10001) * 14 * 33 + 23ul * 23 * 23 * 23 + 2,
-};
-
-static unsigned long compared[CALLS], differ[CALLS];
-
-/* Differences shown of each call; all are counted. */
-enum { SHOWN = 5 };
-
-/* The numbers that a call is given, or the fields of its answer, in order. */
-typedef struct {
-    int count;
-    uint32_t values[5];
-} numbers;
-
-static numbers of_date(tc_optional_date a) {
-    numbers list = {4, {a.found, a.date.year, a.date.month, a.date.day}};
-    return list;
-}
-
-static numbers of_bool(tc_bool_result a) {
-    numbers list = {5, {a.error, a.value, a.date.year, a.date.month, a.date.day}};
-    return list;
-}
-
-static int same(numbers a, numbers b) {
-    return a.count == b.count && memcmp(a.values, b.values, (size_t)a.count * sizeof a.values[0]) == 0;
-}
-
-static void show(const char *what, numbers list) {
-    printf("  %s:", what);
-    for (int i = 0; i < list.count; i++) printf(" %lu", (unsigned long)list.values[i]);
-    printf("\n");
-}
-
-static void compare(enum call call, numbers input, numbers answer, numbers expected) {
-    compared[call]++;
-    if (same(answer, expected)) return;
-    if (differ[call]++ >= SHOWN) return;
-    printf("%s\n", names[call]);
-    show("input", input);
-    show("answer", answer);
-    show("expected", expected);
-}
 
 static void nth(uint32_t year, uint32_t month, uint32_t weekday, uint8_t n) {
     numbers in = {4, {year, month, weekday, n}};
-    compare(NTH, in, of_date(tc_nth_weekday_of_month(year, month, weekday, n)),
+    compare(&calls[NTH], in, of_date(tc_nth_weekday_of_month(year, month, weekday, n)),
             of_date(plain_nth_weekday_of_month(year, month, weekday, n)));
 }
 
 static void last(uint32_t year, uint32_t month, uint32_t weekday) {
     numbers in = {3, {year, month, weekday}};
-    compare(LAST, in, of_date(tc_last_weekday_of_month(year, month, weekday)),
+    compare(&calls[LAST], in, of_date(tc_last_weekday_of_month(year, month, weekday)),
             of_date(plain_last_weekday_of_month(year, month, weekday)));
 }
 
 static void easter(uint32_t year) {
     numbers in = {1, {year}};
-    compare(EASTER, in, of_date(tc_calculate_easter(year)), of_date(plain_calculate_easter(year)));
-    compare(GOOD_FRIDAY, in, of_date(tc_calculate_good_friday(year)), of_date(plain_calculate_good_friday(year)));
-    compare(EASTER_MONDAY, in, of_date(tc_calculate_easter_monday(year)), of_date(plain_calculate_easter_monday(year)));
+    compare(&calls[EASTER], in, of_date(tc_calculate_easter(year)), of_date(plain_calculate_easter(year)));
+    compare(&calls[GOOD_FRIDAY], in, of_date(tc_calculate_good_friday(year)), of_date(plain_calculate_good_friday(year)));
+    compare(&calls[EASTER_MONDAY], in, of_date(tc_calculate_easter_monday(year)), of_date(plain_calculate_easter_monday(year)));
 }
 
 static void day_of(uint32_t market, uint32_t year, uint32_t month, uint32_t day) {
     numbers in = {4, {market, year, month, day}};
-    compare(TRADING_DAY, in, of_bool(tc_is_trading_day(market, year, month, day)),
+    compare(&calls[TRADING_DAY], in, of_bool(tc_is_trading_day(market, year, month, day)),
             of_bool(plain_is_trading_day(market, year, month, day)));
-    compare(HOLIDAY, in, of_bool(tc_is_holiday(market, year, month, day)),
+    compare(&calls[HOLIDAY], in, of_bool(tc_is_holiday(market, year, month, day)),
             of_bool(plain_is_holiday(market, year, month, day)));
-}
-
-/* Every day of the year, and the numbers around months and days that are no date. */
-static void year_of(uint32_t market, uint32_t year) {
-    for (uint32_t month = 0; month <= 13; month++)
-        for (uint32_t day = 0; day <= 32; day++) day_of(market, year, month, day);
 }
 
 /* Every year, month and weekday, with the counts of a month, of a year and beyond. */
@@ -125,16 +69,12 @@ static void all_counts(void) {
 
 /* Every market, and codes of none, in the years that have answers and those around; one market in every year. */
 static void all_dates(void) {
-    static const uint32_t markets[] = {0, 1, 2, 3, 4, 5, 6, UINT32_MAX};
-    for (size_t i = 0; i < LENGTH(markets); i++)
-        for (uint32_t year = 2019; year <= 2031; year++) year_of(markets[i], year);
-    for (uint32_t year = 0; year <= 10000; year++) year_of(year % 5, year);
+    ask_years(day_of, 2019, 2031);
+    for (uint32_t year = 0; year <= 10000; year++) ask_year(day_of, year % 5, year);
 }
 
 /* Numbers at and past every limit, all with all. */
 static void extremes(void) {
-    static const uint32_t limits[] = {0, 1, 5, 6, 7, 8, 11, 12, 13, 14, 255, 256, 2019, 9998, 9999, 10000, 10001, 65535, 65536,
-                                      INT32_MAX, (uint32_t)INT32_MAX + 1, UINT32_MAX - 1, UINT32_MAX};
     static const uint8_t counts[] = {0, 1, 4, 5, 53, 254, 255};
     for (size_t a = 0; a < LENGTH(limits); a++) {
         easter(limits[a]);
@@ -142,10 +82,10 @@ static void extremes(void) {
             for (size_t c = 0; c < LENGTH(limits); c++) {
                 last(limits[a], limits[b], limits[c]);
                 for (size_t n = 0; n < LENGTH(counts); n++) nth(limits[a], limits[b], limits[c], counts[n]);
-                for (size_t d = 0; d < LENGTH(limits); d++) day_of(limits[a], limits[b], limits[c], limits[d]);
             }
         }
     }
+    ask_limits(day_of);
 }
 
 static numbers on(uint32_t year, uint32_t month, uint32_t day) {
@@ -158,20 +98,20 @@ static void example_easters(void) {
     static const tc_date dates[] = {{2024, 3, 31}, {1818, 3, 22}, {1943, 4, 25}};
     for (size_t i = 0; i < LENGTH(dates); i++) {
         numbers in = {1, {dates[i].year}};
-        compare(EASTER, in, of_date(tc_calculate_easter(dates[i].year)), on(dates[i].year, dates[i].month, dates[i].day));
+        compare(&calls[EASTER], in, of_date(tc_calculate_easter(dates[i].year)), on(dates[i].year, dates[i].month, dates[i].day));
     }
 }
 
 /* The example of [nth-weekday], and the none of [last-weekday] in December 9999. */
 static void example_weekdays(void) {
     numbers monday_53 = {4, {2019, 1, 0, 53}}, december = {3, {9999, 12, 0}}, none = {4, {0}};
-    compare(NTH, monday_53, of_date(tc_nth_weekday_of_month(2019, 1, 0, 53)), on(2020, 1, 6));
-    compare(LAST, december, of_date(tc_last_weekday_of_month(9999, 12, 0)), none);
+    compare(&calls[NTH], monday_53, of_date(tc_nth_weekday_of_month(2019, 1, 0, 53)), on(2020, 1, 6));
+    compare(&calls[LAST], december, of_date(tc_last_weekday_of_month(9999, 12, 0)), none);
 }
 
 static void example_day(enum call call, uint32_t market, uint32_t year, uint32_t month, uint32_t day, uint32_t value) {
     numbers in = {4, {market, year, month, day}}, expected = {5, {0, value}};
-    compare(call, in, of_bool((call == HOLIDAY ? tc_is_holiday : tc_is_trading_day)(market, year, month, day)), expected);
+    compare(&calls[call], in, of_bool((call == HOLIDAY ? tc_is_holiday : tc_is_trading_day)(market, year, month, day)), expected);
 }
 
 /* The trading days and holidays of [examples]. */
@@ -186,7 +126,6 @@ static void example_days(void) {
 }
 
 int main(void) {
-    int failed = 0;
     plain_fill();
     all_years();
     all_counts();
@@ -195,13 +134,5 @@ int main(void) {
     example_easters();
     example_weekdays();
     example_days();
-    for (int call = 0; call < CALLS; call++) {
-        printf("%s: %lu compared, %lu differ\n", names[call], compared[call], differ[call]);
-        if (differ[call] != 0) failed = 1;
-        if (compared[call] != expected_count[call]) {
-            printf("%s: not the %lu comparisons that were meant\n", names[call], expected_count[call]);
-            failed = 1;
-        }
-    }
-    return failed;
+    return finish(calls, CALLS);
 }

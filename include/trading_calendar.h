@@ -13,6 +13,25 @@ typedef struct {
     uint32_t year, month, day;
 } tc_date;
 
+/* The seconds of the day at which a session starts and ends, each 0 to 86399 [time]. Over midnight the end is before the start;
+ * with equal ends the session is the whole day [contains]. */
+typedef struct {
+    uint32_t start, end;
+} tc_session;
+
+/* The hours of a date [hours-record]. A part is absent if its has_ field is 0, whatever its numbers are, and present with any
+ * other number there. In an answer has_ is 0 or 1, and the numbers of an absent part are 0 [host-answers]. */
+typedef struct {
+    tc_date date;
+    uint32_t has_pre_market;
+    tc_session pre_market;
+    tc_session regular;
+    uint32_t has_after_hours;
+    tc_session after_hours;
+    uint32_t has_early_close;
+    uint32_t early_close;
+} tc_hours;
+
 /* found is 1 and date is the answer, or every field is 0: none [host-answers]. */
 typedef struct {
     uint32_t found;
@@ -26,8 +45,26 @@ typedef struct {
     tc_date date;
 } tc_bool_result;
 
+/* error is 0 and seconds is a time of the day; or error is a number of [errors], and seconds is 0. */
+typedef struct {
+    uint32_t error, seconds;
+} tc_time_result;
+
+/* error is 0 and session is the answer; or error is a number of [errors], and every other field is 0. */
+typedef struct {
+    uint32_t error;
+    tc_session session;
+} tc_session_result;
+
+/* error is 0 and hours is the answer; or error is a number of [errors], and every other field is 0. */
+typedef struct {
+    uint32_t error;
+    tc_hours hours;
+} tc_hours_result;
+
 /* Every call takes any numbers at all. A weekday is 0 for Monday to 6 for Sunday [weekday-numbers]. A market is 0 NYSE,
- * 1 NASDAQ, 2 LSE, 3 TSE or 4 TSX [markets]. */
+ * 1 NASDAQ, 2 LSE, 3 TSE or 4 TSX [markets]. A time is a second of the day [time]. Of the errors that a call names, the first that
+ * applies is the answer. */
 
 /* The first such weekday of the month, and nth - 1 weeks on [nth-weekday]. None if that day's month has another number
  * (its year is not compared), if nth is 0, or if the weekday, the month, the year or the answer is out of range. */
@@ -47,11 +84,47 @@ tc_optional_date tc_calculate_good_friday(uint32_t year);
 tc_optional_date tc_calculate_easter_monday(uint32_t year);
 
 /* Whether the date is no Saturday, no Sunday and no holiday of the market [trading-day]. Error 8 if there is no such market,
- * 5 if there is no such date, 1 if its year is outside 2020 to 2030 [year-check]: the first of these that applies. */
+ * 5 if there is no such date, 1 if its year is outside 2020 to 2030 [year-check]. */
 tc_bool_result tc_is_trading_day(uint32_t market, uint32_t year, uint32_t month, uint32_t day);
 
 /* Whether the date is a holiday of the market, be it on a weekend or not [is-holiday]. The same errors. */
 tc_bool_result tc_is_holiday(uint32_t market, uint32_t year, uint32_t month, uint32_t day);
+
+/* The hours of the market on a date of any year, be it a trading day or not [trading-hours], with the early closes of the US
+ * [early-close]. Error 8 if there is no such market, 5 if there is no such date. */
+tc_hours_result tc_trading_hours(uint32_t market, uint32_t year, uint32_t month, uint32_t day);
+
+/* Whether the date is a trading day of the market and its hours on that date are open at the time [is-open]. Error 8 if there is
+ * no such market, 5 if there is no such date, 7 if there is no such time, 1 if the year is outside 2020 to 2030. */
+tc_bool_result tc_is_open(uint32_t market, uint32_t year, uint32_t month, uint32_t day, uint32_t time);
+
+/* The session from start to end, over midnight if the end is before the start [session-new]. Error 7 if there is no such time,
+ * 3 if both are equal. */
+tc_session_result tc_session_new(uint32_t start, uint32_t end);
+
+/* Whether the session contains the time: its start is in it, its end is not, and with equal ends every time is [contains].
+ * Error 7 if one of the three is no time. */
+tc_bool_result tc_session_contains(tc_session session, uint32_t time);
+
+/* The record of these parts, with no early close [hours-new]. A session whose has_ number is 0 is absent. Error 5 if there is no
+ * such date, 7 if the regular session or one that is present has a number that is no time. */
+tc_hours_result tc_trading_hours_new(uint32_t year, uint32_t month, uint32_t day, tc_session regular, uint32_t has_pre_market,
+                                     tc_session pre_market, uint32_t has_after_hours, tc_session after_hours);
+
+/* The record with its early close set to the time [with-early-close]. Error 5 if the record's date is none, 7 if the time or one
+ * present in the record, an earlier early close too, is none, 4 if the time is not before the regular end. */
+tc_hours_result tc_with_early_close(tc_hours hours, uint32_t time);
+
+/* Whether the record has an early close [is-early-close]. Error 5 if its date is none, 7 if a time present in it is none. */
+tc_bool_result tc_is_early_close(tc_hours hours);
+
+/* The early close if the record has one, else its regular end [market-close]. The same errors. */
+tc_time_result tc_market_close(tc_hours hours);
+
+/* Whether the record is open at the time: in its pre-market; from its regular start until its market close, though never over
+ * midnight; or in its after-hours, if not before an early close [is-open-at]. Holidays are not consulted. The same errors, with 7
+ * also for the time. */
+tc_bool_result tc_is_open_at(tc_hours hours, uint32_t time);
 
 #ifdef __cplusplus
 }

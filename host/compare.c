@@ -1,0 +1,72 @@
+/* Comparing answers and counting them, and the dates that calls are asked about. */
+#include "compare.h"
+
+#include <stdio.h>
+#include <string.h>
+
+/* Differences shown of each call; all are counted. */
+enum { SHOWN = 5 };
+
+const uint32_t limits[LIMITS] = {0, 1, 5, 6, 7, 8, 11, 12, 13, 14, 255, 256, 2019, 9998, 9999, 10000, 10001, 65535, 65536,
+                                 INT32_MAX, (uint32_t)INT32_MAX + 1, UINT32_MAX - 1, UINT32_MAX};
+
+numbers of_date(tc_optional_date a) {
+    numbers list = {4, {a.found, a.date.year, a.date.month, a.date.day}};
+    return list;
+}
+
+numbers of_bool(tc_bool_result a) {
+    numbers list = {5, {a.error, a.value, a.date.year, a.date.month, a.date.day}};
+    return list;
+}
+
+static int same(numbers a, numbers b) {
+    return a.count == b.count && memcmp(a.values, b.values, (size_t)a.count * sizeof a.values[0]) == 0;
+}
+
+static void show(const char *what, numbers list) {
+    printf("  %s:", what);
+    for (int i = 0; i < list.count; i++) printf(" %lu", (unsigned long)list.values[i]);
+    printf("\n");
+}
+
+void compare(tally *call, numbers input, numbers answer, numbers expected) {
+    call->compared++;
+    if (same(answer, expected)) return;
+    if (call->differ++ >= SHOWN) return;
+    printf("%s\n", call->name);
+    show("input", input);
+    show("answer", answer);
+    show("expected", expected);
+}
+
+int finish(const tally *calls, int count) {
+    int failed = 0;
+    for (int i = 0; i < count; i++) {
+        printf("%s: %lu compared, %lu differ\n", calls[i].name, calls[i].compared, calls[i].differ);
+        if (calls[i].differ != 0) failed = 1;
+        if (calls[i].compared == 0 || calls[i].compared != calls[i].meant) {
+            printf("%s: not the %lu comparisons that were meant\n", calls[i].name, calls[i].meant);
+            failed = 1;
+        }
+    }
+    return failed;
+}
+
+void ask_year(asker *ask, uint32_t market, uint32_t year) {
+    for (uint32_t month = 0; month <= 13; month++)
+        for (uint32_t day = 0; day <= 32; day++) ask(market, year, month, day);
+}
+
+void ask_years(asker *ask, uint32_t first, uint32_t last) {
+    static const uint32_t codes[] = {0, 1, 2, 3, 4, 5, 6, UINT32_MAX};
+    for (size_t i = 0; i < LENGTH(codes); i++)
+        for (uint32_t year = first; year <= last; year++) ask_year(ask, codes[i], year);
+}
+
+void ask_limits(asker *ask) {
+    for (int a = 0; a < LIMITS; a++)
+        for (int b = 0; b < LIMITS; b++)
+            for (int c = 0; c < LIMITS; c++)
+                for (int d = 0; d < LIMITS; d++) ask(limits[a], limits[b], limits[c], limits[d]);
+}

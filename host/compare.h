@@ -1,0 +1,45 @@
+/* What the tests share: comparing answers and counting them, and the dates that calls are asked about. */
+#ifndef COMPARE_H
+#define COMPARE_H
+
+#include "trading_calendar.h"
+
+#include <stddef.h>
+
+#define LENGTH(list) (sizeof(list) / sizeof(list)[0])
+
+/* The numbers that a call is given, or the fields of its answer, in order: at most a number and the 13 fields of hours. */
+typedef struct {
+    int count;
+    uint32_t values[14];
+} numbers;
+
+numbers of_date(tc_optional_date answer);
+numbers of_bool(tc_bool_result answer);
+
+/* A call by its name, how many comparisons of it are meant, so that a loop cut short is seen, and how many were made and differ. */
+typedef struct {
+    const char *name;
+    unsigned long meant, compared, differ;
+} tally;
+
+void compare(tally *call, numbers input, numbers answer, numbers expected);
+
+/* Prints a line for each call. 0 if no answer differs and all were compared that are meant, else 1. */
+int finish(const tally *calls, int count);
+
+/* Compares what a call answers on a date. */
+typedef void asker(uint32_t market, uint32_t year, uint32_t month, uint32_t day);
+
+/* Every day of the year, and the numbers around months and days that are no date: 14 months of 33 days. */
+void ask_year(asker *ask, uint32_t market, uint32_t year);
+
+/* The same for five markets and three codes of none, in each year from the first to the last. */
+void ask_years(asker *ask, uint32_t first, uint32_t last);
+
+/* Numbers at and past every limit of markets and dates; and every code and date that can be made of them. */
+enum { LIMITS = 23 };
+extern const uint32_t limits[LIMITS];
+void ask_limits(asker *ask);
+
+#endif
