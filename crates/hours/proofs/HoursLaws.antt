@@ -1,10 +1,29 @@
--- What becomes of the hours past the checks, and of an error.
+-- The laws of the checks: what each case answers, and what becomes of the hours or of the error.
 -- Assumes nothing.
 use mathlib.Core.Path.{_≡_, ap, _∙_}
+use mathlib.Core.Bool.{Bool, true, false, _&&_}
+use Rattle.gregorian.specs.Calendar.{isDate}
 use Rattle.error.specs.declared.CalendarError.{CalendarError}
+use Rattle.error.specs.declared.CalendarError.the-variants.{InvalidDate, TimeOutOfRange}
 use Rattle.schedule.specs.declared.TradingHours.{TradingHours}
 use Rattle.schedule.specs.declared.HoursResult.{HoursResult}
-use Rattle.hours.specs.Calls.{tryHours}
+use Rattle.hours.specs.Calls.{hasTimes, checkedHours, tryHours}
+
+module _ (hours : TradingHours) (inRange : Bool) where
+  abbrev date-is : Bool
+  date-is = isDate (hours .date .year) (hours .date .month) (hours .date .day)
+
+  pub error-5 : date-is ≡ false → HoursResult.Err InvalidDate ≡ checkedHours hours inRange
+  unfolding checkedHours
+  error-5 d = simp d
+
+  pub error-7 : date-is ≡ true → (hasTimes hours && inRange) ≡ false → HoursResult.Err TimeOutOfRange ≡ checkedHours hours inRange
+  unfolding checkedHours
+  error-7 d t = simp (d, t)
+
+  pub checked : date-is ≡ true → (hasTimes hours && inRange) ≡ true → HoursResult.Ok hours ≡ checkedHours hours inRange
+  unfolding checkedHours
+  checked d t = simp (d, t)
 
 module _ {A : Type 0} (error : CalendarError → A) (rest : TradingHours → A) (r : HoursResult) where
   pub after-hours : (h : TradingHours) (a : A) → HoursResult.Ok h ≡ r → a ≡ rest h → a ≡ tryHours r error rest

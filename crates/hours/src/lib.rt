@@ -66,10 +66,12 @@ fn checked_hours(hours: TradingHours, in_range: bool) -> HoursResult
     ensures { λ r. ⌜ r ≡ checkedHours hours «in_range» ⌝ }
 {
     let date = hours.date;
-    if !gregorian::is_date(date.year, date.month, date.day) {
+    let is_date = gregorian::is_date(date.year, date.month, date.day);
+    let has_times = has_times(hours) & in_range;
+    if !is_date {
         return HoursResult::Err(CalendarError::InvalidDate);
     }
-    if !(has_times(hours) & in_range) {
+    if !has_times {
         return HoursResult::Err(CalendarError::TimeOutOfRange);
     }
     HoursResult::Ok(hours)
