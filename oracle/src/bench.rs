@@ -1,13 +1,17 @@
-//! How long is_trading_day takes: the library through its C boundary beside the original with all its years in the cache.
+//! How long calls take: the library through its C boundary beside the original with all its years in the cache.
 
-use crate::bench_parts;
-use crate::library::{tc_is_trading_day, Date};
+use crate::library::*;
 use crate::original::{calendars, days_of, MARKETS};
+use crate::original_hours::{self, time};
 use crate::times::{mean, Days, Times, ROUNDS};
-use crate::ANSWERED_YEARS;
+use crate::{bench_parts, ANSWERED_YEARS};
+use chrono::NaiveDate;
 use std::hint::black_box;
 use std::slice;
-use trading_calendar::TradingCalendar;
+use trading_calendar::TradingHours;
+
+/// The time that is_open and is_open_at are asked about, in the regular hours of every market.
+const TIME: u32 = 36_000;
 
 pub fn run() {
     let days: Days = ANSWERED_YEARS.flat_map(days_of).collect();
@@ -15,18 +19,94 @@ pub fn run() {
         .flat_map(days_of)
         .filter(|(date, _)| date.month == 12)
         .collect();
-    println!(
-        "ns per call of is_trading_day: {ROUNDS} rounds, the original and the library in turn."
-    );
-    sides("All days of 2020 to 2030", &days);
-    sides("Decembers of 2020 to 2030", &decembers);
+    println!("ns per call: {ROUNDS} rounds, the original and the library in turn.");
+    is_trading_day("All days of 2020 to 2030", &days);
+    is_trading_day("Decembers of 2020 to 2030", &decembers);
     bench_parts::run(&days);
+    trading_hours(&days);
+    is_open_at(&days);
+    is_open(&days);
 }
 
-/// The original and the library on the same dates.
-fn sides(title: &str, days: &Days) {
-    let (original, library) = measured(days);
-    println!("\n{title}, {} dates:\n", days.len());
+fn is_trading_day(title: &str, days: &Days) {
+    let calendars = calendars();
+    sides(
+        &format!("is_trading_day. {title}"),
+        days,
+        |market, (_, date)| {
+            let _ = black_box(calendars[market].is_trading_day(black_box(*date)));
+        },
+        |market, (date, _)| {
+            let Date { year, month, day } = black_box(*date);
+            black_box(tc_is_trading_day(
+                black_box(market as u32),
+                year,
+                month,
+                day,
+            ));
+        },
+    );
+}
+
+fn trading_hours(days: &Days) {
+    let calendars = calendars();
+    sides(
+        "trading_hours. All days of 2020 to 2030",
+        days,
+        |market, (_, date)| {
+            black_box(calendars[market].trading_hours(black_box(*date)));
+        },
+        |market, (date, _)| {
+            let Date { year, month, day } = black_box(*date);
+            black_box(tc_trading_hours(black_box(market as u32), year, month, day));
+        },
+    );
+}
+
+/// The records are made before.
+fn is_open_at(days: &Days) {
+    let (calendars, at) = (calendars(), time(TIME).expect("a time"));
+    let of_day = |(_, date): &(Date, NaiveDate)| -> [(TradingHours, Hours); 5] {
+        std::array::from_fn(|market| {
+            let hours = calendars[market].trading_hours(*date);
+            let record = original_hours::trading_hours(&calendars[market], *date).hours;
+            (hours, record)
+        })
+    };
+    let records: Vec<_> = days.iter().map(of_day).collect();
+    sides(
+        "is_open_at, at 36000. The records of all days of 2020 to 2030",
+        &records,
+        |market, records| {
+            black_box(black_box(&records[market].0).is_open_at(black_box(at)));
+        },
+        |market, records| {
+            black_box(tc_is_open_at(black_box(records[market].1), black_box(TIME)));
+        },
+    );
+}
+
+fn is_open(days: &Days) {
+    let (calendars, at) = (calendars(), time(TIME).expect("a time"));
+    sides(
+        "is_open, at 36000. All days of 2020 to 2030",
+        days,
+        |market, (_, date)| {
+            let answer =
+                original_hours::is_open(&calendars[market], black_box(*date), black_box(at));
+            let _ = black_box(answer);
+        },
+        |market, (date, _)| {
+            let (Date { year, month, day }, at) = black_box((*date, TIME));
+            black_box(tc_is_open(black_box(market as u32), year, month, day, at));
+        },
+    );
+}
+
+/// The original and the library on the same inputs.
+fn sides<T>(title: &str, inputs: &[T], original: impl Fn(usize, &T), library: impl Fn(usize, &T)) {
+    let (original, library) = measured(inputs, original, library);
+    println!("\n{title}, {} inputs:\n", inputs.len());
     println!("| Market | Original, median | least | Library, median | least | Library / original, medians | least |");
     println!("|---|---|---|---|---|---|---|");
     for (market, (original, library)) in MARKETS.iter().zip(original.iter().zip(&library)) {
@@ -40,31 +120,19 @@ fn sides(title: &str, days: &Days) {
 }
 
 /// The times of each market, of the original and of the library.
-fn measured(days: &Days) -> (Vec<Times>, Vec<Times>) {
-    let calendars = calendars();
+fn measured<T>(
+    inputs: &[T],
+    original: impl Fn(usize, &T),
+    library: impl Fn(usize, &T),
+) -> (Vec<Times>, Vec<Times>) {
     // Every year gets into the cache.
-    calendars
-        .iter()
-        .for_each(|calendar| ask_original(&mut Times::default(), calendar, days));
-    let (mut original, mut library) = (vec![Times::default(); 5], vec![Times::default(); 5]);
+    (0..5).for_each(|market| inputs.iter().for_each(|input| original(market, input)));
+    let (mut originals, mut libraries) = (vec![Times::default(); 5], vec![Times::default(); 5]);
     for market in (0..ROUNDS).flat_map(|_| 0..5) {
-        ask_original(&mut original[market], &calendars[market], days);
-        ask_library(&mut library[market], market as u32, days);
+        originals[market].measure(inputs, |input| original(market, input));
+        libraries[market].measure(inputs, |input| library(market, input));
     }
-    (original, library)
-}
-
-pub fn ask_original(times: &mut Times, calendar: &TradingCalendar, days: &Days) {
-    times.measure(days, |(_, date)| {
-        let _ = black_box(calendar.is_trading_day(black_box(*date)));
-    });
-}
-
-fn ask_library(times: &mut Times, market: u32, days: &Days) {
-    times.measure(days, |(date, _)| {
-        let Date { year, month, day } = black_box(*date);
-        black_box(tc_is_trading_day(black_box(market), year, month, day));
-    });
+    (originals, libraries)
 }
 
 fn row(name: &str, original: &[Times], library: &[Times]) {

@@ -1,6 +1,5 @@
 //! Where the time of the original goes: parts of its is_trading_day alone, on the same dates.
 
-use crate::bench::ask_original;
 use crate::original::{calendars, MARKETS};
 use crate::times::{mean, Days, Times, ROUNDS};
 use crate::ANSWERED_YEARS;
@@ -31,7 +30,7 @@ pub fn run(days: &Days) {
     let mut times = vec![vec![Times::default(); 5]; NAMES.len()];
     for market in (0..ROUNDS).flat_map(|_| 0..5) {
         let parts: &Parts = &markets[market];
-        ask_original(&mut times[0][market], &parts.calendar, days);
+        parts.whole(&mut times[0][market], days);
         parts.cached(&mut times[1][market], days);
         parts.cloned(&mut times[2][market], days);
         parts.locked(&mut times[3][market], days);
@@ -41,7 +40,9 @@ pub fn run(days: &Days) {
 }
 
 fn print(times: &[Vec<Times>]) {
-    println!("\nParts of the original, each measured alone, mean of the markets:\n");
+    println!(
+        "\nParts of the original's is_trading_day, each measured alone, mean of the markets:\n"
+    );
     println!("| Part | ns, median | least | Share of the whole, least |");
     println!("|---|---|---|---|");
     let whole = mean(&times[0], Times::least);
@@ -76,6 +77,12 @@ impl Parts {
 
     fn set_of(&self, date: NaiveDate) -> &HashSet<NaiveDate> {
         &self.sets[(date.year() - *ANSWERED_YEARS.start() as i32) as usize]
+    }
+
+    fn whole(&self, times: &mut Times, days: &Days) {
+        times.measure(days, |(_, date)| {
+            let _ = black_box(self.calendar.is_trading_day(black_box(*date)));
+        });
     }
 
     fn cached(&self, times: &mut Times, days: &Days) {

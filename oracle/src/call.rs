@@ -114,11 +114,11 @@ fn weekday(number: u32) -> Option<Weekday> {
     WEEKDAYS.get(number as usize).copied()
 }
 
-fn date(number: u32, month: u32, day: u32) -> Option<NaiveDate> {
+pub fn date(number: u32, month: u32, day: u32) -> Option<NaiveDate> {
     NaiveDate::from_ymd_opt(year(number)?, month, day)
 }
 
-fn calendar(market: u32) -> Option<TradingCalendar> {
+pub fn calendar(market: u32) -> Option<TradingCalendar> {
     let market = MARKETS.get(market as usize)?;
     TradingCalendar::new(*market).ok()
 }

@@ -3,14 +3,14 @@
 use crate::library::*;
 use crate::original::{self, days_of, of_result};
 use crate::tally::Tally;
-use crate::{added, ANSWERED_YEARS, LAST_YEAR, YEARS};
+use crate::{added, added_hours, compare_hours, ANSWERED_YEARS, LAST_YEAR, YEARS};
 use chrono::NaiveDate;
 use trading_calendar::{Result, TradingCalendar};
 
-const MARKETS: u64 = 5;
+pub const MARKETS: u64 = 5;
 /// Days of the years 1 to 9999, and of 2020 to 2030.
-const ALL_DAYS: u64 = 3_652_059;
-const ANSWERED_DAYS: u64 = 4018;
+pub const ALL_DAYS: u64 = 3_652_059;
+pub const ANSWERED_DAYS: u64 = 4018;
 
 /// Whether all is right.
 pub fn run() -> bool {
@@ -30,8 +30,9 @@ pub fn run() -> bool {
             TradingCalendar::is_trading_day,
         ),
         implementations(),
+        compare_hours::run(),
     ];
-    let added = added::run();
+    let added = added::run() & added_hours::run();
     both.into_iter().all(|right| right) && added
 }
 
@@ -95,7 +96,7 @@ fn nth_weekdays() -> bool {
 }
 
 /// Every market, every day of the years 1 to 9999, in both forms.
-fn all_days() -> impl Iterator<Item = (u32, Date, NaiveDate)> {
+pub fn all_days() -> impl Iterator<Item = (u32, Date, NaiveDate)> {
     (0..5).flat_map(|market| {
         YEARS
             .flat_map(days_of)

@@ -23,6 +23,48 @@ pub struct BoolResult {
     pub date: Date,
 }
 
+#[repr(C)]
+#[derive(Clone, Copy, Debug, Default, PartialEq, Eq)]
+pub struct Session {
+    pub start: u32,
+    pub end: u32,
+}
+
+/// A has_ field is 0 if the part is absent [host-answers].
+#[repr(C)]
+#[derive(Clone, Copy, Debug, Default, PartialEq, Eq)]
+pub struct Hours {
+    pub date: Date,
+    pub has_pre_market: u32,
+    pub pre_market: Session,
+    pub regular: Session,
+    pub has_after_hours: u32,
+    pub after_hours: Session,
+    pub has_early_close: u32,
+    pub early_close: u32,
+}
+
+#[repr(C)]
+#[derive(Clone, Copy, Debug, Default, PartialEq, Eq)]
+pub struct TimeResult {
+    pub error: u32,
+    pub seconds: u32,
+}
+
+#[repr(C)]
+#[derive(Clone, Copy, Debug, Default, PartialEq, Eq)]
+pub struct SessionResult {
+    pub error: u32,
+    pub session: Session,
+}
+
+#[repr(C)]
+#[derive(Clone, Copy, Debug, Default, PartialEq, Eq)]
+pub struct HoursResult {
+    pub error: u32,
+    pub hours: Hours,
+}
+
 /// Of all_years: every field is false if there is no such market or no such date.
 #[repr(C)]
 #[derive(Clone, Copy, Debug, Default, PartialEq, Eq)]
@@ -46,6 +88,25 @@ unsafe extern "C" {
     pub safe fn tc_calculate_easter_monday(year: u32) -> OptionalDate;
     pub safe fn tc_is_trading_day(market: u32, year: u32, month: u32, day: u32) -> BoolResult;
     pub safe fn tc_is_holiday(market: u32, year: u32, month: u32, day: u32) -> BoolResult;
+
+    pub safe fn tc_trading_hours(market: u32, year: u32, month: u32, day: u32) -> HoursResult;
+    pub safe fn tc_is_open(market: u32, year: u32, month: u32, day: u32, time: u32) -> BoolResult;
+    pub safe fn tc_session_new(start: u32, end: u32) -> SessionResult;
+    pub safe fn tc_session_contains(session: Session, time: u32) -> BoolResult;
+    pub safe fn tc_trading_hours_new(
+        year: u32,
+        month: u32,
+        day: u32,
+        regular: Session,
+        has_pre_market: u32,
+        pre_market: Session,
+        has_after_hours: u32,
+        after_hours: Session,
+    ) -> HoursResult;
+    pub safe fn tc_with_early_close(hours: Hours, time: u32) -> HoursResult;
+    pub safe fn tc_is_early_close(hours: Hours) -> BoolResult;
+    pub safe fn tc_market_close(hours: Hours) -> TimeResult;
+    pub safe fn tc_is_open_at(hours: Hours, time: u32) -> BoolResult;
 
     pub safe fn all_years_day(market: u32, year: u32, month: u32, day: u32) -> DayAnswer;
 }

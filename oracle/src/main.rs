@@ -1,17 +1,30 @@
 //! The library beside the original: oracle/run builds and starts this.
 
 mod added;
+mod added_hours;
 mod bench;
 mod bench_parts;
 mod call;
+mod call_hours;
 mod compare;
+mod compare_hours;
+mod compare_records;
+mod faults;
 mod library;
+mod numbers;
 mod original;
+mod original_hours;
+mod random;
 mod row_inputs;
+mod row_inputs_hours;
+mod row_sections_hours;
+mod row_writer;
 mod rows;
+mod rows_hours;
 mod tally;
 mod times;
 
+use std::io;
 use std::ops::RangeInclusive;
 use std::process::ExitCode;
 
@@ -25,15 +38,14 @@ fn main() -> ExitCode {
     let right = match words.iter().map(String::as_str).collect::<Vec<_>>()[..] {
         ["compare"] => compare::run(),
         ["overflows"] => added::overflows(),
-        ["rows"] => rows::run()
-            .inspect_err(|error| eprintln!("oracle: {error}"))
-            .is_ok(),
+        ["rows", "holidays"] => written(rows::run()),
+        ["rows", "hours"] => written(rows_hours::run()),
         ["bench"] => {
             bench::run();
             true
         }
         _ => {
-            eprintln!("usage: oracle compare|overflows|rows|bench");
+            eprintln!("usage: oracle compare|overflows|bench|rows holidays|rows hours");
             false
         }
     };
@@ -42,4 +54,10 @@ fn main() -> ExitCode {
     } else {
         ExitCode::FAILURE
     }
+}
+
+fn written(outcome: io::Result<()>) -> bool {
+    outcome
+        .inspect_err(|error| eprintln!("oracle: {error}"))
+        .is_ok()
 }

@@ -55,7 +55,7 @@ pub fn days_of(year: u32) -> impl Iterator<Item = (Date, NaiveDate)> {
     })
 }
 
-fn of_date(date: NaiveDate) -> Date {
+pub fn of_date(date: NaiveDate) -> Date {
     Date {
         year: u32::try_from(date.year()).expect("a year from 0 on"),
         month: date.month(),

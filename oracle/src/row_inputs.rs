@@ -12,7 +12,7 @@ pub const HEAD: &str = "\
 # is_holiday MARKET YEAR MONTH DAY = error, value, year, month, day, where the date is that of error 1
 # is_trading_day MARKET YEAR MONTH DAY = the same
 #
-# Made by `oracle/run FOLDER rows`, where FOLDER is the repository danjloveless/trading-calendar at commit 7b03202e8e:
+# Made by `oracle/run FOLDER rows holidays`, where FOLDER is the repository danjloveless/trading-calendar at commit 7b03202e8e:
 # the answers of its TradingCalendar day by day and, for holidays_any_year, of the MarketImpl behind it. Its source is
 # unchanged; its dependencies are the stand-ins of oracle/stand-ins, for chrono as in docs/SCOPE.md [oracle].
 # Errors 8 and 5 are rules of the library, as their headings say.

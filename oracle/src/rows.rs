@@ -5,19 +5,19 @@ use crate::original::{calendars, days_of, implementations, of_result};
 use crate::row_inputs::{
     months, other_years, Day, OwnRule, EDGES, EXAMPLES, HEAD, NAMES, OWN_RULES,
 };
+use crate::row_writer::RowWriter;
 use crate::ANSWERED_YEARS;
 use chrono::NaiveDate;
-use std::io::{self, BufWriter, Write};
+use std::io;
 use trading_calendar::markets::MarketImpl;
 use trading_calendar::{Result, TradingCalendar};
 
 pub fn run() -> io::Result<()> {
     let mut rows = Rows {
-        out: BufWriter::new(io::stdout().lock()),
+        out: RowWriter::to_standard_output(HEAD)?,
         calendars: calendars(),
         implementations: implementations(),
     };
-    write!(rows.out, "{HEAD}")?;
     (0..5).try_for_each(|market| rows.holidays(market))?;
     // NASDAQ has the rules of NYSE and is left out.
     [0, 2, 3, 4]
@@ -32,51 +32,56 @@ pub fn run() -> io::Result<()> {
 
 type Ask = fn(&TradingCalendar, NaiveDate) -> Result<bool>;
 
-struct Rows<Out: Write> {
-    out: Out,
+struct Rows {
+    out: RowWriter,
     calendars: [TradingCalendar; 5],
     implementations: [Box<dyn MarketImpl>; 5],
 }
 
-impl<Out: Write> Rows<Out> {
+impl Rows {
     fn holidays(&mut self, market: u32) -> io::Result<()> {
         let name = NAMES[market as usize];
-        self.heading(&format!("{name}: the holidays of the years 2020 to 2030"))?;
+        self.out
+            .heading(&format!("{name}: the holidays of the years 2020 to 2030"))?;
         for year in ANSWERED_YEARS {
             let days = self.holidays_of(market, year);
-            self.row("holidays", &[market, year], &days)?;
+            self.out.row("holidays", &[market, year], &days)?;
         }
         Ok(())
     }
 
     fn holidays_any_year(&mut self, market: u32) -> io::Result<()> {
         let name = NAMES[market as usize];
-        self.heading(&format!("{name}: the holidays of other years"))?;
+        self.out
+            .heading(&format!("{name}: the holidays of other years"))?;
         for year in other_years() {
             let days = self.holidays_of_any_year(market, year);
-            self.row("holidays_any_year", &[market, year], &days)?;
+            self.out.row("holidays_any_year", &[market, year], &days)?;
         }
         Ok(())
     }
 
     fn trading_days(&mut self, market: u32) -> io::Result<()> {
         let name = NAMES[market as usize];
-        self.heading(&format!("{name}: the trading days of some months"))?;
+        self.out
+            .heading(&format!("{name}: the trading days of some months"))?;
         let all = ANSWERED_YEARS.flat_map(|year| months(market).iter().map(move |&m| (year, m)));
         for (year, month) in all {
             let days = self.trading_days_of(market, year, month);
-            self.row("trading_days", &[market, year, month], &days)?;
+            self.out
+                .row("trading_days", &[market, year, month], &days)?;
         }
         Ok(())
     }
 
     /// Single dates, for is_holiday or is_trading_day.
     fn days(&mut self, name: &str, ask: Ask) -> io::Result<()> {
-        self.heading(&format!("{name}: examples of docs/SCOPE.md"))?;
+        self.out
+            .heading(&format!("{name}: examples of docs/SCOPE.md"))?;
         EXAMPLES
             .iter()
             .try_for_each(|&day| self.day(name, day, ask))?;
-        self.heading(&format!(
+        self.out.heading(&format!(
             "{name}: around the years 2020 and 2030, far outside, and leap days"
         ))?;
         let edges =
@@ -90,11 +95,11 @@ impl<Out: Write> Rows<Out> {
     }
 
     fn own_rule(&mut self, name: &str, (error, about, days): &OwnRule) -> io::Result<()> {
-        self.heading(&format!(
+        self.out.heading(&format!(
             "{name}, a rule that the original does not have: error {error}, {about}"
         ))?;
         for day in *days {
-            self.row(name, day, &[*error, 0, 0, 0, 0])?;
+            self.out.row(name, day, &[*error, 0, 0, 0, 0])?;
         }
         Ok(())
     }
@@ -105,7 +110,7 @@ impl<Out: Write> Rows<Out> {
         let date = NaiveDate::from_ymd_opt(year as i32, month, day).expect("a date");
         let BoolResult { error, value, date } =
             of_result(ask(&self.calendars[market as usize], date));
-        self.row(
+        self.out.row(
             name,
             &input,
             &[error, value, date.year, date.month, date.day],
@@ -114,28 +119,34 @@ impl<Out: Write> Rows<Out> {
 
     /// One row of each kind.
     fn wrong_on_purpose(&mut self) -> io::Result<()> {
-        self.heading("wrong on purpose: NYSE also has 103, as 1 January 2022 is a Saturday")?;
+        self.out
+            .heading("wrong on purpose: NYSE also has 103, as 1 January 2022 is a Saturday")?;
         let mut days = self.holidays_of(0, 2022);
         days.retain(|&day| day != 103);
-        self.row("holidays", &[0, 2022], &days)?;
+        self.out.row("holidays", &[0, 2022], &days)?;
 
-        self.heading(
+        self.out.heading(
             "wrong on purpose: TSX has no 219, as its holiday in February begins with 2008",
         )?;
         let mut days = self.holidays_of_any_year(4, 2007);
         days.insert(1, 219);
-        self.row("holidays_any_year", &[4, 2007], &days)?;
+        self.out.row("holidays_any_year", &[4, 2007], &days)?;
 
-        self.heading("wrong on purpose: TSX also trades on 27 December 2022")?;
+        self.out
+            .heading("wrong on purpose: TSX also trades on 27 December 2022")?;
         let mut days = self.trading_days_of(4, 2022, 12);
         days.retain(|&day| day != 27);
-        self.row("trading_days", &[4, 2022, 12], &days)?;
+        self.out.row("trading_days", &[4, 2022, 12], &days)?;
 
-        self.heading("wrong on purpose: 4 January 2021 is a holiday of TSE")?;
-        self.row("is_holiday", &[3, 2021, 1, 4], &[0, 0, 0, 0, 0])?;
+        self.out
+            .heading("wrong on purpose: 4 January 2021 is a holiday of TSE")?;
+        self.out
+            .row("is_holiday", &[3, 2021, 1, 4], &[0, 0, 0, 0, 0])?;
 
-        self.heading("wrong on purpose: 28 December 2021 is no trading day of LSE")?;
-        self.row("is_trading_day", &[2, 2021, 12, 28], &[0, 1, 0, 0, 0])
+        self.out
+            .heading("wrong on purpose: 28 December 2021 is no trading day of LSE")?;
+        self.out
+            .row("is_trading_day", &[2, 2021, 12, 28], &[0, 1, 0, 0, 0])
     }
 
     fn holidays_of(&self, market: u32, year: u32) -> Vec<u32> {
@@ -155,16 +166,6 @@ impl<Out: Write> Rows<Out> {
         let of_month = days_of(year).filter(|(date, _)| date.month == month);
         let trading = of_month.filter(|&(_, naive)| is_trading_day(naive));
         trading.map(|(date, _)| date.day).collect()
-    }
-
-    fn heading(&mut self, text: &str) -> io::Result<()> {
-        writeln!(self.out, "\n# {text}")
-    }
-
-    fn row(&mut self, name: &str, input: &[u32], answer: &[u32]) -> io::Result<()> {
-        let words =
-            |numbers: &[u32]| -> String { numbers.iter().map(|n| format!(" {n}")).collect() };
-        writeln!(self.out, "{name}{} ={}", words(input), words(answer))
     }
 }
 

@@ -4,7 +4,7 @@ use crate::library::Date;
 use chrono::NaiveDate;
 use std::time::Instant;
 
-/// Measurements of each kind. Each is one pass over the dates, short enough that few are disturbed by other programs.
+/// Measurements of each kind. Each is one pass over the inputs, short enough that few are disturbed by other programs.
 pub const ROUNDS: usize = 501;
 
 pub type Days = Vec<(Date, NaiveDate)>;
@@ -14,11 +14,11 @@ pub type Days = Vec<(Date, NaiveDate)>;
 pub struct Times(Vec<f64>);
 
 impl Times {
-    pub fn measure(&mut self, days: &Days, call: impl FnMut(&(Date, NaiveDate))) {
+    pub fn measure<T>(&mut self, inputs: &[T], call: impl FnMut(&T)) {
         let start = Instant::now();
-        days.iter().for_each(call);
+        inputs.iter().for_each(call);
         let nanoseconds = start.elapsed().as_nanos() as f64;
-        self.0.push(nanoseconds / days.len() as f64);
+        self.0.push(nanoseconds / inputs.len() as f64);
     }
 
     pub fn median(&self) -> f64 {

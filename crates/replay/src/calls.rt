@@ -1,9 +1,15 @@
 // The kinds of calls that rows store: the name of each, and the library's answer to its inputs. A new kind is a number
 // here, a name, how many inputs it takes, and a call of the library in `answer`. Kinds in the plural list days.
+use crate::hours::bool_answer;
+use crate::hours::hours_answer;
+use crate::hours::record;
+use crate::hours::session;
+use crate::hours::session_answer;
+use crate::hours::time_answer;
+use crate::hours::trading_hours_new;
 use crate::lists;
 use crate::name::Name;
 use crate::numbers::Numbers;
-use trading_calendar::BoolAnswer;
 use trading_calendar::OptionalDate;
 use trading_calendar::tc_calculate_easter;
 use trading_calendar::tc_calculate_easter_monday;
@@ -12,6 +18,14 @@ use trading_calendar::tc_is_holiday;
 use trading_calendar::tc_is_trading_day;
 use trading_calendar::tc_last_weekday_of_month;
 use trading_calendar::tc_nth_weekday_of_month;
+use trading_calendar::trading_hours::tc_is_early_close;
+use trading_calendar::trading_hours::tc_is_open;
+use trading_calendar::trading_hours::tc_is_open_at;
+use trading_calendar::trading_hours::tc_market_close;
+use trading_calendar::trading_hours::tc_session_contains;
+use trading_calendar::trading_hours::tc_session_new;
+use trading_calendar::trading_hours::tc_trading_hours;
+use trading_calendar::trading_hours::tc_with_early_close;
 
 pub const NTH_WEEKDAY_OF_MONTH: usize = 0;
 
@@ -33,8 +47,26 @@ pub const HOLIDAYS_ANY_YEAR: usize = 8;
 
 pub const TRADING_DAYS: usize = 9;
 
+pub const TRADING_HOURS: usize = 10;
+
+pub const IS_OPEN: usize = 11;
+
+pub const SESSION_NEW: usize = 12;
+
+pub const SESSION_CONTAINS: usize = 13;
+
+pub const TRADING_HOURS_NEW: usize = 14;
+
+pub const WITH_EARLY_CLOSE: usize = 15;
+
+pub const IS_EARLY_CLOSE: usize = 16;
+
+pub const MARKET_CLOSE: usize = 17;
+
+pub const IS_OPEN_AT: usize = 18;
+
 // How many kinds there are. Where a kind is asked for, it says that there is none.
-pub const KINDS: usize = 10;
+pub const KINDS: usize = 19;
 
 pub fn name(kind: usize) -> Name {
     match kind {
@@ -48,6 +80,15 @@ pub fn name(kind: usize) -> Name {
         HOLIDAYS => Name::of(b"holidays"),
         HOLIDAYS_ANY_YEAR => Name::of(b"holidays_any_year"),
         TRADING_DAYS => Name::of(b"trading_days"),
+        TRADING_HOURS => Name::of(b"trading_hours"),
+        IS_OPEN => Name::of(b"is_open"),
+        SESSION_NEW => Name::of(b"session_new"),
+        SESSION_CONTAINS => Name::of(b"session_contains"),
+        TRADING_HOURS_NEW => Name::of(b"trading_hours_new"),
+        WITH_EARLY_CLOSE => Name::of(b"with_early_close"),
+        IS_EARLY_CLOSE => Name::of(b"is_early_close"),
+        MARKET_CLOSE => Name::of(b"market_close"),
+        IS_OPEN_AT => Name::of(b"is_open_at"),
         _ => Name::new(),
     }
 }
@@ -67,9 +108,13 @@ pub fn kind_of(text: Name) -> usize {
 // How many inputs the kind takes.
 fn input_count(kind: usize) -> usize {
     match kind {
-        NTH_WEEKDAY_OF_MONTH | IS_TRADING_DAY | IS_HOLIDAY => 4,
-        LAST_WEEKDAY_OF_MONTH | TRADING_DAYS => 3,
-        HOLIDAYS | HOLIDAYS_ANY_YEAR => 2,
+        WITH_EARLY_CLOSE | IS_OPEN_AT => 14,
+        IS_EARLY_CLOSE | MARKET_CLOSE => 13,
+        TRADING_HOURS_NEW => 11,
+        IS_OPEN => 5,
+        NTH_WEEKDAY_OF_MONTH | IS_TRADING_DAY | IS_HOLIDAY | TRADING_HOURS => 4,
+        LAST_WEEKDAY_OF_MONTH | TRADING_DAYS | SESSION_CONTAINS => 3,
+        HOLIDAYS | HOLIDAYS_ANY_YEAR | SESSION_NEW => 2,
         CALCULATE_EASTER | CALCULATE_GOOD_FRIDAY | CALCULATE_EASTER_MONDAY => 1,
         _ => 0,
     }
@@ -101,6 +146,15 @@ pub fn answer(kind: usize, inputs: Numbers) -> Numbers {
         HOLIDAYS => lists::holidays(false, v[0], v[1]),
         HOLIDAYS_ANY_YEAR => lists::holidays(true, v[0], v[1]),
         TRADING_DAYS => lists::trading_days(v[0], v[1], v[2]),
+        TRADING_HOURS => hours_answer(tc_trading_hours(v[0], v[1], v[2], v[3])),
+        IS_OPEN => bool_answer(tc_is_open(v[0], v[1], v[2], v[3], v[4])),
+        SESSION_NEW => session_answer(tc_session_new(v[0], v[1])),
+        SESSION_CONTAINS => bool_answer(tc_session_contains(session(v[0], v[1]), v[2])),
+        TRADING_HOURS_NEW => hours_answer(trading_hours_new(inputs)),
+        WITH_EARLY_CLOSE => hours_answer(tc_with_early_close(record(inputs), v[13])),
+        IS_EARLY_CLOSE => bool_answer(tc_is_early_close(record(inputs))),
+        MARKET_CLOSE => time_answer(tc_market_close(record(inputs))),
+        IS_OPEN_AT => bool_answer(tc_is_open_at(record(inputs), v[13])),
         _ => Numbers::new(),
     }
 }
@@ -117,16 +171,6 @@ fn optional_date(answer: OptionalDate) -> Numbers {
     let date = answer.date;
     Numbers::new()
         .push(answer.found)
-        .push(date.year)
-        .push(date.month)
-        .push(date.day)
-}
-
-fn bool_answer(answer: BoolAnswer) -> Numbers {
-    let date = answer.date;
-    Numbers::new()
-        .push(answer.error)
-        .push(answer.value)
         .push(date.year)
         .push(date.month)
         .push(date.day)

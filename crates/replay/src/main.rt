@@ -1,5 +1,6 @@
 // Compares stored answers with those of the library, and prints how many rows it compared and how many differ.
 mod calls;
+mod hours;
 mod lists;
 mod name;
 mod numbers;
@@ -32,5 +33,6 @@ fn main() {
     replay(b"easter.txt");
     replay(b"weekdays.txt");
     replay(b"holidays.txt");
+    replay(b"hours.txt");
     replay(b"malformed.txt");
 }

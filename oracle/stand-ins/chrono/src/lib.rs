@@ -12,6 +12,6 @@ mod zone;
 
 pub use duration::Duration;
 pub use naive_date::{Datelike, NaiveDate};
-pub use naive_time::{NaiveDateTime, NaiveTime};
+pub use naive_time::{NaiveDateTime, NaiveTime, Timelike};
 pub use weekday::Weekday;
 pub use zone::{DateTime, LocalResult, TimeZone, Utc};
