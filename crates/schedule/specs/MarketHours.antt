@@ -45,17 +45,21 @@ usTradingHours date =
     })
     (hoursNew date regular pre (OptionalSession.Some (session 57600 72000)))
 
+-- no session before or after, no early close
+abbrev pub regularHours : ℕ → ℕ → Date → TradingHours
+regularHours start end date = hoursNew date (session start end) OptionalSession.None OptionalSession.None
+
 -- LSEMarket::trading_hours: 8:00 to 16:30
 abbrev pub lseTradingHours : Date → TradingHours
-lseTradingHours date = hoursNew date (session 28800 59400) OptionalSession.None OptionalSession.None
+lseTradingHours = regularHours 28800 59400
 
 -- TSEMarket::trading_hours: 9:00 to 15:00
 abbrev pub tseTradingHours : Date → TradingHours
-tseTradingHours date = hoursNew date (session 32400 54000) OptionalSession.None OptionalSession.None
+tseTradingHours = regularHours 32400 54000
 
 -- TSXMarket::trading_hours: 9:30 to 16:00
 abbrev pub tsxTradingHours : Date → TradingHours
-tsxTradingHours date = hoursNew date (session 34200 57600) OptionalSession.None OptionalSession.None
+tsxTradingHours = regularHours 34200 57600
 
 -- in the order of the codes, NYSE, NASDAQ, LSE, TSE, TSX
 abbrev pub hoursByCode : List (Date → TradingHours)

@@ -1,25 +1,22 @@
 // Sessions and trading hours, as src/schedule.rs of the Rust, and the hours of each market. A time is a second of the day; every
 // function takes every number. Labels in brackets are those of docs/SCOPE.md.
-pub mod canada;
-pub mod japan;
-pub mod uk;
+pub mod constants;
 pub mod us;
 
 ghost use mathlib.Core.Path.{_≡_};
 ghost use mathlib.Core.Bool.{true};
 ghost use Rattle.gregorian.specs.Calendar.{isDate};
 ghost use Rattle.schedule.specs.Schedule.{sessionNew, contains, mayContain, isFrom, hoursNew, withEarlyClose, isEarlyClose, marketClose, isOpenAt};
-ghost use Rattle.schedule.specs.MarketHours.{tradingHours};
-use canada::TSXMarket;
+ghost use Rattle.schedule.specs.MarketHours.{regularHours, tradingHours};
+use constants::LSEMarket;
+use constants::TSEMarket;
+use constants::TSXMarket;
 use error::CalendarError;
 use gregorian::Date;
-use japan::TSEMarket;
 use markets::LSE;
 use markets::NASDAQ;
 use markets::NYSE;
 use markets::TSE;
-use uk::LSEMarket;
-use us::USMarket;
 
 #[repr(C)]
 pub struct Session {
@@ -183,15 +180,27 @@ impl TradingHours {
     }
 }
 
+// LSE, TSE and TSX: no session before or after, no early close.
+fn regular_hours(date: Date, start: u32, end: u32) -> TradingHours
+    ensures { λ r. ⌜ r ≡ regularHours start end date ⌝ }
+{
+    TradingHours::new(
+        date,
+        Session { start, end },
+        OptionalSession::None,
+        OptionalSession::None,
+    )
+}
+
 // [trading-hours]: callers have checked the code, so the last arm is TSX.
 pub fn trading_hours(market: u32, date: Date) -> TradingHours
     requires { ⌜ isDate (date .year) (date .month) (date .day) ≡ true ⌝ }
     ensures { λ r. ⌜ r ≡ tradingHours market date ⌝ }
 {
     match market {
-        NYSE | NASDAQ => USMarket::trading_hours(date),
-        LSE => LSEMarket::trading_hours(date),
-        TSE => TSEMarket::trading_hours(date),
-        _ => TSXMarket::trading_hours(date),
+        NYSE | NASDAQ => us::trading_hours(date),
+        LSE => regular_hours(date, LSEMarket::REGULAR_OPEN, LSEMarket::REGULAR_CLOSE),
+        TSE => regular_hours(date, TSEMarket::REGULAR_OPEN, TSEMarket::REGULAR_CLOSE),
+        _ => regular_hours(date, TSXMarket::REGULAR_OPEN, TSXMarket::REGULAR_CLOSE),
     }
 }

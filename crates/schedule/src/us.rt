@@ -9,75 +9,61 @@ use crate::OptionalSession;
 use crate::OptionalTime;
 use crate::Session;
 use crate::TradingHours;
+use crate::constants::USMarket;
 use gregorian::Date;
 use markets::is_weekend;
 use markets::us::holidays::thanksgiving_day;
 use utils::OptionalDay;
 
-pub struct USMarket {}
+// The day after Thanksgiving.
+fn is_black_friday(year: u32, n: u32) -> bool
+    ensures { λ r. ⌜ r ≡ isDay (blackFriday year) n ⌝ }
+{
+    let OptionalDay::Day(thanksgiving) = thanksgiving_day(year) else {
+        return false;
+    };
+    n == thanksgiving + 1
+}
 
-impl USMarket {
-    // [hours]
-    pub const REGULAR_OPEN: u32 = 34200;
+// [early-close]: also 3 July before a weekday, and 24 December on one.
+fn is_early_close_day(date: Date) -> bool
+    requires { ⌜ isDate (date .year) (date .month) (date .day) ≡ true ⌝ }
+    ensures { λ r. ⌜ r ≡ isEarlyCloseDay date ⌝ }
+{
+    let n = gregorian::day_number(date.year, date.month, date.day);
+    is_black_friday(date.year, n)
+        | ((date.month == 7) & (date.day == 3) & !is_weekend(n + 1))
+        | ((date.month == 12) & (date.day == 24) & !is_weekend(n))
+}
 
-    pub const REGULAR_CLOSE: u32 = 57600;
-
-    pub const PREMARKET_OPEN: u32 = 14400;
-
-    pub const AFTERHOURS_CLOSE: u32 = 72000;
-
-    pub const EARLY_CLOSE: u32 = 46800;
-
-    // The day after Thanksgiving.
-    fn is_black_friday(year: u32, n: u32) -> bool
-        ensures { λ r. ⌜ r ≡ isDay (blackFriday year) n ⌝ }
-    {
-        let OptionalDay::Day(thanksgiving) = thanksgiving_day(year) else {
-            return false;
+// [trading-hours]: on an early close the after-hours begin with it.
+pub fn trading_hours(date: Date) -> TradingHours
+    requires { ⌜ isDate (date .year) (date .month) (date .day) ≡ true ⌝ }
+    ensures { λ r. ⌜ r ≡ usTradingHours date ⌝ }
+{
+    let regular = Session {
+        start: USMarket::REGULAR_OPEN,
+        end: USMarket::REGULAR_CLOSE,
+    };
+    let pre_market = OptionalSession::Some(Session {
+        start: USMarket::PREMARKET_OPEN,
+        end: USMarket::REGULAR_OPEN,
+    });
+    if is_early_close_day(date) {
+        return TradingHours {
+            date,
+            pre_market,
+            regular,
+            after_hours: OptionalSession::Some(Session {
+                start: USMarket::EARLY_CLOSE,
+                end: USMarket::AFTERHOURS_CLOSE,
+            }),
+            early_close: OptionalTime::Some(USMarket::EARLY_CLOSE),
         };
-        n == thanksgiving + 1
     }
-
-    // [early-close]: also 3 July before a weekday, and 24 December on one.
-    fn is_early_close_day(date: Date) -> bool
-        requires { ⌜ isDate (date .year) (date .month) (date .day) ≡ true ⌝ }
-        ensures { λ r. ⌜ r ≡ isEarlyCloseDay date ⌝ }
-    {
-        let n = gregorian::day_number(date.year, date.month, date.day);
-        USMarket::is_black_friday(date.year, n)
-            | ((date.month == 7) & (date.day == 3) & !is_weekend(n + 1))
-            | ((date.month == 12) & (date.day == 24) & !is_weekend(n))
-    }
-
-    // [trading-hours]: on an early close the after-hours begin with it.
-    pub fn trading_hours(date: Date) -> TradingHours
-        requires { ⌜ isDate (date .year) (date .month) (date .day) ≡ true ⌝ }
-        ensures { λ r. ⌜ r ≡ usTradingHours date ⌝ }
-    {
-        let regular = Session {
-            start: USMarket::REGULAR_OPEN,
-            end: USMarket::REGULAR_CLOSE,
-        };
-        let pre_market = OptionalSession::Some(Session {
-            start: USMarket::PREMARKET_OPEN,
-            end: USMarket::REGULAR_OPEN,
-        });
-        if USMarket::is_early_close_day(date) {
-            return TradingHours {
-                date,
-                pre_market,
-                regular,
-                after_hours: OptionalSession::Some(Session {
-                    start: USMarket::EARLY_CLOSE,
-                    end: USMarket::AFTERHOURS_CLOSE,
-                }),
-                early_close: OptionalTime::Some(USMarket::EARLY_CLOSE),
-            };
-        }
-        let after_hours = OptionalSession::Some(Session {
-            start: USMarket::REGULAR_CLOSE,
-            end: USMarket::AFTERHOURS_CLOSE,
-        });
-        TradingHours::new(date, regular, pre_market, after_hours)
-    }
+    let after_hours = OptionalSession::Some(Session {
+        start: USMarket::REGULAR_CLOSE,
+        end: USMarket::AFTERHOURS_CLOSE,
+    });
+    TradingHours::new(date, regular, pre_market, after_hours)
 }

@@ -12,22 +12,22 @@ use Rattle.schedule.proofs.trading_hours.Tie as tie
 
 returns : tie.Need-returns
 unfolding tradingHours
-returns c = by-code _ 2 _ _ (c .trading-hours .ensures) (c .before .match .keys1)
+returns c = by-code _ 2 _ _ (c .regular-hours .ensures) (c .before .match .keys1)
 
 returns-2 : tie.Need-returns-2
 unfolding tradingHours
-returns-2 c = by-code _ 3 _ _ (c .trading-hours2 .ensures) (c .before .match .keys2)
+returns-2 c = by-code _ 3 _ _ (c .regular-hours2 .ensures) (c .before .match .keys2)
 
 returns-3 : tie.Need-returns-3
 returns-3 c =
     let a = c .before .before .before .args in
-    c .trading-hours3 .ensures ∙ ap (λ (f : Date → TradingHours). f (a .date)) (sym (us-hours (a .market) (c .before .if1 .taken)))
+    c .trading-hours .ensures ∙ ap (λ (f : Date → TradingHours). f (a .date)) (sym (us-hours (a .market) (c .before .if1 .taken)))
 
 returns-4 : tie.Need-returns-4
 returns-4 c =
     let a = c .before .before .before .args in
     let m : 4 ≤ a .market = omega (arith, c .before .if1 .left, c .before .before .match .rest) in
-    c .trading-hours4 .ensures ∙ ap (λ (f : Date → TradingHours). f (a .date)) (sym (tsx-hours (a .market) m))
+    c .regular-hours3 .ensures ∙ ap (λ (f : Date → TradingHours). f (a .date)) (sym (tsx-hours (a .market) m))
 
 pub trading-hours-spec : {M : Type 1} → statement M
 trading-hours-spec =

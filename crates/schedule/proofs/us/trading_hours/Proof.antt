@@ -1,9 +1,9 @@
--- `schedule::us::USMarket::trading_hours` meets its contract: an early close, and another day.
+-- `schedule::us::trading_hours` meets its contract: an early close, and another day.
 use mathlib.Core.Path.{sym, _∙_}
 use borrow.Author.Needs.{needs}
 use Rattle.schedule.specs.MarketHours.{usTradingHours}
-use Rattle.schedule.proofs.us.USMarket.trading_hours.Statement.{statement}
-use Rattle.schedule.proofs.us.USMarket.trading_hours.Tie as tie
+use Rattle.schedule.proofs.us.trading_hours.Statement.{statement}
+use Rattle.schedule.proofs.us.trading_hours.Tie as tie
 
 returns : tie.Need-returns
 unfolding usTradingHours

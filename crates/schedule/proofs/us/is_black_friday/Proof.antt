@@ -1,4 +1,4 @@
--- `schedule::us::USMarket::is_black_friday` meets its contract: the day after the answer, or none.
+-- `schedule::us::is_black_friday` meets its contract: the day after the answer, or none.
 use Prim.Native.Nat.{_+_}
 use mathlib.Core.Path.{_≡_, ap, sym, _∙_, subst}
 use native.Mathlib.Omega.{arith}
@@ -9,8 +9,8 @@ use Rattle.utils.specs.Weekday.{InYears, mapDay}
 use Rattle.utils.proofs.WeekdayLaws.{nth-in-years}
 use Rattle.days.specs.Days.{isDay}
 use Rattle.markets.specs.Us.{thanksgivingDay}
-use Rattle.schedule.proofs.us.USMarket.is_black_friday.Statement.{statement}
-use Rattle.schedule.proofs.us.USMarket.is_black_friday.Tie as tie
+use Rattle.schedule.proofs.us.is_black_friday.Statement.{statement}
+use Rattle.schedule.proofs.us.is_black_friday.Tie as tie
 
 -- past `let .. else`, Thanksgiving is there
 thanksgiving : (c : tie.After-known-told) → Day (c .before .thanksgiving .given .0 .0) ≡ thanksgivingDay (c .before .before .before .before .args .year)

@@ -1,4 +1,4 @@
--- `schedule::us::USMarket::is_early_close_day` meets its contract: its three days.
+-- `schedule::us::is_early_close_day` meets its contract: its three days.
 use Prim.Native.Nat.{ℕ, _+_}
 use mathlib.Core.Path.{ap, _∙_}
 use mathlib.Core.Bool.{not, _&&_, _||_}
@@ -9,8 +9,8 @@ use Rattle.gregorian.proofs.Laws.{number-range}
 use Rattle.days.specs.Days.{isDay}
 use Rattle.markets.specs.Markets.{isWeekend}
 use Rattle.schedule.specs.MarketHours.{blackFriday, isEarlyCloseDay}
-use Rattle.schedule.proofs.us.USMarket.is_early_close_day.Statement.{statement}
-use Rattle.schedule.proofs.us.USMarket.is_early_close_day.Tie as tie
+use Rattle.schedule.proofs.us.is_early_close_day.Statement.{statement}
+use Rattle.schedule.proofs.us.is_early_close_day.Tie as tie
 
 add-is-weekend : tie.Need-add-is-weekend
 add-is-weekend c =
