@@ -1,17 +1,22 @@
 #!/usr/bin/env python3
-"""Checks the dates in docs/DIFFERENCES.md against the stored answers and against the calendars of other programs.
+"""Checks the dates and hours in docs/DIFFERENCES.md against the stored answers and against the calendars of other programs.
 
 usage: check_differences.py [REPOSITORY [PAGE]]
 
 A line of a table has: date, weekday, what the document says, what the answer is here, the document, the programs that confirm
 it. "Document says" and "here" begin with the answer: trades, closed, holiday or no holiday. A line of the table of other years
 begins with the market; there the programs that say otherwise follow after "not". Words after an answer's colon are not read.
+A line of hours has: markets, days, a first input, what the document says, what the answer is here, the document, the programs.
+Days are "24 and 31 December of 2020, 2024 to 2027" or, for the days with a session among them, "2020-01-01 to 2024-11-04". Hours
+are "no session" or sessions as "09:00 to 11:30, 12:30 to 15:00"; here they are the regular session of trading_hours, up to the
+early close if there is one. A first input, "2020-12-24 at 45000", is the first of the days and a second at which the two differ.
+Of the hours that no program has, the first input and the answer of is_open, open or closed, are checked.
 A program that is not installed, or not in the version that the page names, is reported as not compared. Beside the programs stand
 "rules", the public rules computed here for 2020 to 2030; LSE's proclaimed days and the moved holidays of the Tokyo Games are data
 there, so that for these lines it is no second derivation.
 Exit status 1 means that something is wrong, each told by a line "WRONG": a table that is missing, a line with a wrong date,
-weekday, answer here, document or "Confirmed by", a program that differs on a day that no line and no gap explains, a gap that is
-none, or that no program was compared.
+weekday, input, answer here, document or "Confirmed by", a program that differs on a day that no line and no gap explains, a gap
+that is none, stored hours that are not those taken for the answers here, or that no program was compared.
 """
 import re
 import shutil
@@ -22,6 +27,7 @@ from pathlib import Path
 
 ROOT = Path(__file__).resolve().parent.parent
 STORED = "crates/replay/data/holidays.txt"
+STORED_HOURS = "crates/replay/data/hours.txt"
 PAGE = "docs/DIFFERENCES.md"
 
 FIRST, LAST = date(2020, 1, 1), date(2030, 12, 31)
@@ -34,6 +40,19 @@ MARKETS = ["NYSE", "NASDAQ", "LSE", "TSE", "TSX"]
 DATE_TABLES = {"NYSE and NASDAQ": ["NYSE", "NASDAQ"], "LSE": ["LSE"], "TSE": ["TSE"], "TSX": ["TSX"]}
 WEEKEND_TABLES = {"TSE, weekends": ["TSE"]}
 OTHER_YEARS = "Other years, by date"
+HOURS = "Hours, 2020 to 2030"
+OTHER_HOURS = "Other years, hours"
+UNCONFIRMED_HOURS = "Hours that no program has"
+LINE_TABLES = [*DATE_TABLES, *WEEKEND_TABLES, OTHER_YEARS, HOURS, OTHER_HOURS]
+MONTHS = ["January", "February", "March", "April", "May", "June", "July", "August", "September", "October", "November", "December"]
+
+# [hours]: regular sessions, and from when until when the US is open with what comes before and after them
+US = ("NYSE", "NASDAQ")
+REGULAR = {"NYSE": ("09:30", "16:00"), "NASDAQ": ("09:30", "16:00"), "LSE": ("08:00", "16:30"), "TSE": ("09:00", "15:00"),
+           "TSX": ("09:30", "16:00")}
+US_EARLY_CLOSE = "13:00"
+US_OPEN = ("04:00", "20:00")
+NO_SESSION = "no session"
 
 
 def days(text):
@@ -66,14 +85,16 @@ GAPS = {
 
 
 class Source:
-    """The closed weekdays of a program by market; for some markets also its holidays on weekends.
+    """The closed weekdays of a program by market; for some markets also its holidays on weekends, and its hours.
 
-    The closed weekdays are those of the years that were asked for, from the market's first year to the last year.
+    The closed weekdays are those of the years that were asked for, from the market's first year to the last year. Hours are its
+    sessions by day or, where it has no more than that, the closing times of its early closes.
     """
 
     def __init__(self, program, version, first_year=FIRST.year, last_year=9999):
         self.program, self.version, self.code = program, version, None
         self.closed, self.weekend = {}, {}
+        self.hours, self.early = {}, {}
         self.first_year = {market: first_year for market in MARKETS}
         self.last_year = last_year
 
@@ -112,7 +133,19 @@ def exchange_calendars(years):
         first = source.first_year[market]
         calendar = ec.get_calendar(code, start=f"{first}-01-01", end=f"{max(years)}-12-31")
         source.closed[market] = {d for d in weekdays_of(years) if d.year >= first} - {s.date() for s in calendar.sessions}
+        source.hours[market] = sessions_of(calendar)
     return source
+
+
+def sessions_of(calendar):
+    """By date, in local time."""
+    moments = [calendar.schedule[name].dt.tz_convert(calendar.tz).dt.strftime("%H:%M")
+               for name in ("open", "break_start", "break_end", "close")]
+    sessions = {}
+    for session, opens, break_start, break_end, closes in zip(calendar.sessions, *moments):
+        has_break = isinstance(break_start, str)
+        sessions[session.date()] = (f"{opens} to {break_start}, {break_end} to {closes}" if has_break else f"{opens} to {closes}")
+    return sessions
 
 
 def python_holidays(years):
@@ -131,6 +164,8 @@ def python_holidays(years):
         japan = set(holidays.country_holidays("JP", years=YEARS))
         tse = set(holidays.financial_holidays("XJPX", years=[year for year in years if year >= 1949]))
         source.closed["NYSE"] = weekdays_of(years) & set(holidays.financial_holidays("XNYS", years=years))
+        half_days = holidays.financial_holidays("XNYS", years=years, categories=("half_day",))
+        source.early["NYSE"] = {d: closing_time(name) for d, name in half_days.items()}
     else:
         source.last_year = LAST.year
         england = holidays.England(years=YEARS)
@@ -140,6 +175,12 @@ def python_holidays(years):
     source.closed["TSE"] = weekdays_of(years) & tse
     source.weekend["TSE"] = set(WEEKENDS) & (japan | year_end_of_tse())
     return source
+
+
+def closing_time(name):
+    """That of a half day, from a name as "Christmas Eve (markets close at 1:00pm)"."""
+    hour, minute, half = re.search(r"close at (\d+):(\d\d)(am|pm)", name).groups()
+    return f"{int(hour) % 12 + (12 if half == 'pm' else 0):02}:{minute}"
 
 
 def workalendar(years):
@@ -163,15 +204,24 @@ def time_date(years):
     calls = {"NYSE": "holidayNYSE", "LSE": "holidayLONDON", "TSX": "holidayTSX"}
     asked = ",".join(map(str, sorted(year for year in years if year >= 1950)))
     program = 'library(timeDate); cat(as.character(packageVersion("timeDate")), "\\n")\n' + "\n".join(
-        f'cat("{market}", format({call}(c({asked}))), "\\n")' for market, call in calls.items())
+        f'cat("{market}", format({call}(c({asked}))), "\\n")' for market, call in [*calls.items(), ("early", "earlyCloseNYSE")])
     run = subprocess.run(["Rscript", "-e", program], capture_output=True, text=True)
     if run.returncode != 0:
         raise ImportError("Rscript has no timeDate")
     lines = [line.split() for line in run.stdout.splitlines() if line.strip()]
     source = Source("timeDate", lines[0][0], 1950)
+    source.early["NYSE"] = early_closes(lines.pop()[1:])
     for market, *words in lines[1:]:
         source.closed[market] = weekdays_of(years) & days(" ".join(words))
     return source
+
+
+def early_closes(words):
+    """Of the words date, time, date, time and so on. A date with two times is left out."""
+    times = {}
+    for day, time in zip(words[::2], words[1::2]):
+        times.setdefault(date.fromisoformat(day), set()).add(time[:5])
+    return {day: found.pop() for day, found in times.items() if len(found) == 1}
 
 
 PROGRAMS = [quantlib, exchange_calendars, python_holidays, workalendar, time_date]
@@ -275,6 +325,28 @@ def national_holidays(year):
     return named | substitutes | between
 
 
+def last_weekday_to(day):
+    return day - timedelta(max(0, day.weekday() - 4))
+
+
+def public_close(market, day):
+    """When a session ends: early before Christmas and, at LSE, New Year; in the US also about two other holidays."""
+    eve = date(day.year, 12, 24)
+    if market == "LSE":
+        return "12:30" if day in (last_weekday_to(eve), last_weekday_to(date(day.year, 12, 31))) else "16:30"
+    if market == "TSE":
+        return "15:30" if day >= date(2024, 11, 5) else "15:00"
+    if market == "TSX":
+        return "13:00" if day == eve else "16:00"
+    before_holiday = day in (date(day.year, 7, 3), eve) and day.weekday() < 4
+    return "13:00" if before_holiday or day == nth(day.year, 11, 3, 4) + timedelta(1) else "16:00"
+
+
+def public_hours(market, day):
+    until_close = "09:00 to 11:30, 12:30" if market == "TSE" else REGULAR[market][0]
+    return f"{until_close} to {public_close(market, day)}"
+
+
 def public_rules():
     source = Source("public rules, computed", "", last_year=LAST.year)
     source.code = "rules"
@@ -285,6 +357,8 @@ def public_rules():
     tse = {d for y in YEARS for d in national_holidays(y)} | year_end_of_tse()
     source.closed["TSE"] = tse & set(WEEKDAYS)
     source.weekend["TSE"] = tse & set(WEEKENDS)
+    for market, closed in source.closed.items():
+        source.hours[market] = {d: public_hours(market, d) for d in WEEKDAYS if d not in closed}
     return source
 
 
@@ -300,6 +374,83 @@ def stored_holidays(path):
         years[market].add(int(year))
         holidays[market] |= {date(int(year), n // 100, n % 100) for n in map(int, numbers.split())}
     return holidays, years
+
+
+def is_early_close(market, day):
+    """[early-close]: the three rules of the Rust, on trading days or not."""
+    return market in US and (day == nth(day.year, 11, 3, 4) + timedelta(1)
+                             or ((day.month, day.day) == (7, 3) and (day + timedelta(1)).weekday() < 5)
+                             or ((day.month, day.day) == (12, 24) and day.weekday() < 5))
+
+
+def hours_here(market, day):
+    """The regular session of trading_hours, up to the early close if there is one."""
+    opens, closes = REGULAR[market]
+    return f"{opens} to {US_EARLY_CLOSE if is_early_close(market, day) else closes}"
+
+
+def open_hours_here(market, day):
+    """From when until when is_open_at holds: the sessions of the US follow each other without a break."""
+    return " to ".join(US_OPEN) if market in US else hours_here(market, day)
+
+
+def clock(second):
+    """09:30, or 09:30:01."""
+    text = f"{second // 3600:02}:{second // 60 % 60:02}"
+    return f"{text}:{second % 60:02}" if second % 60 else text
+
+
+def session(start, end):
+    return f"{clock(start)} to {clock(end)}"
+
+
+def stored_hours(path):
+    """The stored answers of trading_hours: market, date, regular session up to the early close, from when until when open."""
+    rows, _, _ = path.read_text().partition("# wrong on purpose")
+    for number, *words in re.findall(r"^trading_hours ([0-4]) (\d+) (\d+) (\d+) = 0 ([\d ]+)$", rows, re.MULTILINE):
+        year, month, day = map(int, words[:3])
+        (_, _, _, has_before, before, _, opens, closes, has_after, _, after, has_early, early) = map(int, words[3].split())
+        closes = early if has_early else closes
+        whole = session(before if has_before else opens, after if has_after else closes)
+        yield MARKETS[int(number)], date(year, month, day), session(opens, closes), whole
+
+
+def sessions_in(cell):
+    """The sessions, or that there is none, with which a cell begins; None if it begins with neither."""
+    one = r"\d\d:\d\d to \d\d:\d\d"
+    found = re.match(rf"{one}(, {one})*|{NO_SESSION}", cell)
+    return found.group() if found else None
+
+
+def is_inside(text, second):
+    """Whether a second of the day is in the sessions: starts are, ends are not."""
+    sessions = re.findall(r"(\d\d):(\d\d) to (\d\d):(\d\d)", text)
+    return any(60 * (60 * h + m) <= second < 60 * (60 * end_h + end_m) for h, m, end_h, end_m in (map(int, s) for s in sessions))
+
+
+def numbers_in(text):
+    """Of a list as `2020, 2021, 2024 to 2027 and 2030`."""
+    ends = [[int(word) for word in part.split(" to ")] for part in re.split(", | and ", text)]
+    return [n for first, *last in ends for n in range(first, (last or [first])[0] + 1)]
+
+
+def days_in(cell):
+    """The days of a line of hours in order, and whether they are a range, of which the days with a session are meant."""
+    in_range = re.fullmatch(r"(\d{4}-\d\d-\d\d) to (\d{4}-\d\d-\d\d)", cell)
+    if in_range:
+        first, last = map(date.fromisoformat, in_range.groups())
+        return [first + timedelta(n) for n in range((last - first).days + 1)], True
+    listed = re.fullmatch(rf"([\d, and]+) ({'|'.join(MONTHS)}) of ([\d, andto]+)", cell)
+    if not listed:
+        raise ValueError(cell)
+    month = MONTHS.index(listed[2]) + 1
+    return sorted(date(year, month, day) for year in numbers_in(listed[3]) for day in numbers_in(listed[1])), False
+
+
+def input_in(cell):
+    """A date and a second."""
+    day, second = re.fullmatch(r"(\d{4}-\d\d-\d\d) at (\d{1,5})", cell).groups()
+    return date.fromisoformat(day), int(second)
 
 
 def answer_in(cell):
@@ -396,7 +547,7 @@ def codes_in(cell):
 def check_documents(tables, report):
     """Every document of a line is one of the table of documents."""
     known = {row[0] for row in tables.get("Documents", [])}
-    for name in [*DATE_TABLES, *WEEKEND_TABLES, OTHER_YEARS]:
+    for name in LINE_TABLES:
         for row in tables.get(name, []):
             for document in set(row[-2].split(", ")) - known:
                 report.error(f"{name}, {row[0]} {row[1]}: no document has the name {document}")
@@ -499,10 +650,138 @@ def check_other_years(rows, holidays, years, sources, report):
     print(f"{OTHER_YEARS}: {len(rows)} lines")
 
 
+def hours_of(source, market, day):
+    """The sessions of a program, its closing time where it has no more, or None where it does not say."""
+    answer = answer_of(source, "date", market, day)
+    if answer is None or (day.weekday() > 4 and market not in source.hours):
+        return None
+    if market in source.hours:
+        return source.hours[market].get(day, NO_SESSION)
+    if answer == "closed":
+        return NO_SESSION
+    return source.early[market].get(day, REGULAR[market][1]) if market in source.early else None
+
+
+def is_same(answer, hours):
+    """A program that has a closing time alone is asked for no more."""
+    return answer == hours or hours.endswith(f"to {answer}")
+
+
+def says_hours(source, markets, dates, in_range, hours):
+    """Whether a program has these hours on all these days, or None where it does not say; in a range, on those with a session."""
+    answers = [hours_of(source, market, day) for market in markets for day in dates]
+    answers = [answer for answer in answers if answer and not (in_range and answer == NO_SESSION)]
+    return all(is_same(answer, hours) for answer in answers) if answers else None
+
+
+def check_first_input(row, dates, says, here, report):
+    """The first of the dates, and a second in the one and not in the other."""
+    day, second = input_in(row[2])
+    if day != min(dates, default=None) or is_inside(says, second) == is_inside(here, second):
+        report.error(f"{row[0]}, {row[1]}: {row[2]} is not the first day, or shows nothing")
+
+
+def check_hours_line(row, years, sources, rules, report):
+    """Returns the markets and the days that the line explains."""
+    place, markets = f"{row[0]}, {row[1]}", row[0].split(", ")
+    dates, in_range = days_in(row[1])
+    says, here = sessions_in(row[3]), sessions_in(row[4])
+    if not dates or {d.year for d in dates} - years or set(markets) - set(MARKETS) or None in (says, here) or says == here:
+        report.error(f"{place}: no such market, no such days, or no difference")
+        return set()
+    if any(hours_here(market, day) != here for market in markets for day in dates):
+        report.error(f"{place}: the answer here is not {here}")
+    check_first_input(row, [d for d in dates if d in rules.hours[markets[0]]] if in_range else dates, says, here, report)
+    verdicts = {source.code: says_hours(source, markets, dates, in_range, says) for source in [*sources, rules]}
+    yes, _, no = row[6].partition(" not ")
+    for verdict, cell in ((True, yes), (False, no)):
+        found = {code for code, said in verdicts.items() if said is verdict}
+        if codes_in(cell) & {source.code for source in sources} != found - {"rules"} or (not verdict and "rules" in found):
+            report.error(f"{place}: {'confirmed' if verdict else 'contradicted'} by {sorted(found)}, the page has {row[6]}")
+    return {(market, day) for market in markets for day in dates}
+
+
+def check_hours_table(name, rows, years, sources, rules, report):
+    explained = set()
+    for row in rows:
+        try:
+            explained |= check_hours_line(row, years, sources, rules, report)
+        except (ValueError, AttributeError, LookupError) as problem:
+            report.error(f"{name}, {' | '.join(row[:3])}: cannot be read ({problem})")
+    if not rows:
+        report.error(f"no table below the heading {name}")
+    print(f"{name}: {len(rows)} lines")
+    return explained
+
+
+def differs_in_hours(source, market, day):
+    """Other sessions than here, or an early close here and no session there."""
+    answer = hours_of(source, market, day)
+    if answer == NO_SESSION:
+        return is_early_close(market, day)
+    return answer is not None and not is_same(answer, hours_here(market, day))
+
+
+def check_hours_complete(market, explained, sources, report):
+    """Every day on which a program has other hours than here has a line."""
+    for source in sources:
+        if market not in source.hours and market not in source.early:
+            continue
+        compared = [d for d in DAYS if hours_of(source, market, d) is not None]
+        differing = [d for d in compared if differs_in_hours(source, market, d)]
+        for d in differing:
+            if (market, d) not in explained:
+                report.error(f"{source.code} {market} {d}: {hours_of(source, market, d)}, no line explains it")
+        print(f"  {market}, hours: {source.code} compared on {len(compared)} days, differs on {len(differing)}")
+
+
+def check_unconfirmed_line(row, holidays, report):
+    """The answer of is_open at the first input: open or closed."""
+    day, second = input_in(row[1])
+    for market in row[0].split(", "):
+        trades = day.year in YEARS and day.weekday() < 5 and day not in holidays[market]
+        answer = "open" if trades and is_inside(open_hours_here(market, day), second) else "closed"
+        if not trades or not row[3].startswith(answer):
+            report.error(f"{market} {row[1]}: no trading day, or {answer} here")
+
+
+def check_unconfirmed_hours(rows, holidays, report):
+    for row in rows:
+        try:
+            check_unconfirmed_line(row, holidays, report)
+        except (ValueError, AttributeError, LookupError) as problem:
+            report.error(f"{UNCONFIRMED_HOURS}, {' | '.join(row[:2])}: cannot be read ({problem})")
+    if not rows:
+        report.error(f"no table below the heading {UNCONFIRMED_HOURS}")
+    print(f"{UNCONFIRMED_HOURS}: {len(rows)} lines")
+
+
+def check_stored_hours(path, report):
+    """The stored answers of trading_hours have the hours that are taken for the answers here."""
+    count = 0
+    for market, day, regular, whole in stored_hours(path):
+        count += 1
+        if (regular, whole) != (hours_here(market, day), open_hours_here(market, day)):
+            report.error(f"{market} {day}: the stored hours are {regular}, in all {whole}")
+    if count == 0:
+        report.error("no stored answer of trading_hours")
+    print(f"stored hours: {count} answers of trading_hours")
+
+
+def check_hours(tables, root, holidays, sources, rules, report):
+    check_stored_hours(root / STORED_HOURS, report)
+    explained = check_hours_table(HOURS, tables.get(HOURS, []), set(YEARS), sources, rules, report)
+    for market in MARKETS:
+        check_hours_complete(market, explained, [*sources, rules], report)
+    check_unconfirmed_hours(tables.get(UNCONFIRMED_HOURS, []), holidays, report)
+    others = set(range(1, 10000)) - set(YEARS)
+    check_hours_table(OTHER_HOURS, tables.get(OTHER_HOURS, []), others, sources, rules, report)
+
+
 def check_codes(tables, codes, compared, report):
     """Every code in the last column is one of the table of sources."""
     known = set(codes.values())
-    for name in [*DATE_TABLES, *WEEKEND_TABLES, OTHER_YEARS]:
+    for name in LINE_TABLES:
         used = {code for row in tables.get(name, []) for part in row[-1].split(" not ") for code in codes_in(part)}
         for code in sorted(used - known):
             report.error(f"{name}: no source has the code {code}")
@@ -510,20 +789,8 @@ def check_codes(tables, codes, compared, report):
             print(f"{name}: not compared with {' '.join(sorted(used - compared))}")
 
 
-def main():
-    root = Path(sys.argv[1]) if len(sys.argv) > 1 else ROOT
-    page = Path(sys.argv[2]) if len(sys.argv) > 2 else root / PAGE
-    report = Report()
-    holidays, stored_years = stored_holidays(root / STORED)
-    tables = read_page(page)
-    codes = source_codes(tables)
-    other_years = tables.get(OTHER_YEARS, [])
-    years = set(YEARS) | {int(row[1][:4]) for row in other_years}
-    programs = load_programs(codes, years)
-    sources = programs + [public_rules()]
-    print("compared:", ", ".join(f"{s.code} = {s.program} {s.version}".strip() for s in sources))
-    check_codes(tables, codes, {source.code for source in programs}, report)
-    check_documents(tables, report)
+def check_date_tables(tables, holidays, sources, report):
+    """Returns the days with a line, by market."""
     listed_days = {market: set() for market in MARKETS}
     for kind, group in (("date", DATE_TABLES), ("weekend", WEEKEND_TABLES)):
         listed = {market: set() for market in MARKETS}
@@ -537,8 +804,32 @@ def main():
                 listed_days[market] |= found
         for market in MARKETS:
             check_complete(kind, market, listed[market], holidays, sources, report)
+    return listed_days
+
+
+def other_years_in(tables):
+    """The years of the lines of other years."""
+    by_date = {int(row[1][:4]) for row in tables.get(OTHER_YEARS, [])}
+    return by_date | {int(year) for row in tables.get(OTHER_HOURS, []) for year in re.findall(r"\b\d{4}\b", row[1])}
+
+
+def main():
+    root = Path(sys.argv[1]) if len(sys.argv) > 1 else ROOT
+    page = Path(sys.argv[2]) if len(sys.argv) > 2 else root / PAGE
+    report = Report()
+    holidays, stored_years = stored_holidays(root / STORED)
+    tables = read_page(page)
+    codes = source_codes(tables)
+    programs = load_programs(codes, set(YEARS) | other_years_in(tables))
+    rules = public_rules()
+    sources = programs + [rules]
+    print("compared:", ", ".join(f"{s.code} = {s.program} {s.version}".strip() for s in sources))
+    check_codes(tables, codes, {source.code for source in programs}, report)
+    check_documents(tables, report)
+    listed_days = check_date_tables(tables, holidays, sources, report)
     check_gaps(listed_days, holidays, sources, report)
-    check_other_years(other_years, holidays, stored_years, programs, report)
+    check_hours(tables, root, holidays, programs, rules, report)
+    check_other_years(tables.get(OTHER_YEARS, []), holidays, stored_years, programs, report)
     if not programs:
         report.error("no program was compared")
     print(f"{report.errors} wrong")
