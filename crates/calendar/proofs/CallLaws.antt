@@ -1,7 +1,7 @@
 -- The laws of the checks: what each case answers, and what becomes of the day or of the error.
 -- Assumes nothing.
 use Prim.Native.Nat.{ℕ, _≤_, _<_}
-use mathlib.Core.Path.{_≡_, refl, ap, sym, _∙_, subst}
+use mathlib.Core.Path.{_≡_, refl, ap, _∙_, subst}
 use mathlib.Core.Bool.{Bool, true, false, cond, not}
 use lib.Dec.{ltb}
 use borrow.Author.Tests.{lt-ltb, le-ltb, not-false}
@@ -19,11 +19,11 @@ no-error false e x n q = (refl, q)
 
 -- what follows a day, and an error
 module _ {A : Type 0} (error : CalendarError → A) (rest : ℕ → A) (r : DayResult) where
-  pub after-day : (n : ℕ) (a : A) → DayResult.Ok n ≡ r → a ≡ rest n → a ≡ tryDay r error rest
-  after-day n a q e = e ∙ ap (λ (d : DayResult). tryDay d error rest) q
+  pub past-ok : (n : ℕ) (a : A) → DayResult.Ok n ≡ r → a ≡ rest n → a ≡ tryDay r error rest
+  past-ok n a q e = e ∙ ap (λ (d : DayResult). tryDay d error rest) q
 
-  pub after-day-error : (e : CalendarError) → DayResult.Err e ≡ r → error e ≡ tryDay r error rest
-  after-day-error e q = ap (λ (d : DayResult). tryDay d error rest) q
+  pub past-error : (e : CalendarError) → DayResult.Err e ≡ r → error e ≡ tryDay r error rest
+  past-error e q = ap (λ (d : DayResult). tryDay d error rest) q
 
 module _ (market year month day : ℕ) where
   pub error-8 : 4 < market → checkedDay market year month day ≡ DayResult.Err UnknownMarket
@@ -55,15 +55,15 @@ module _ (market year month day : ℕ) where
     module _ (n : ℕ) (q : DayResult.Ok n ≡ checkedDay market year month day) where
       pub error-7 : inRange ≡ false → DayResult.Err TimeOutOfRange ≡ supportedDay market year month day inRange
       unfolding supportedDay
-      error-7 r = after-day DayResult.Err past-checks _ n _ q (simp r)
+      error-7 r = past-ok DayResult.Err past-checks _ n _ q (simp r)
 
       pub error-1 : inRange ≡ true → isSupported year ≡ false → DayResult.Err (DateOutOfRange (date year month day)) ≡ supportedDay market year month day inRange
       unfolding supportedDay
-      error-1 r s = after-day DayResult.Err past-checks _ n _ q (simp (r, s))
+      error-1 r s = past-ok DayResult.Err past-checks _ n _ q (simp (r, s))
 
       pub supported : inRange ≡ true → isSupported year ≡ true → DayResult.Ok n ≡ supportedDay market year month day inRange
       unfolding supportedDay
-      supported r s = after-day DayResult.Err past-checks _ n _ q (simp (r, s))
+      supported r s = past-ok DayResult.Err past-checks _ n _ q (simp (r, s))
 
     -- The day past all four is that of the first two.
     supported-checked : (r : DayResult) (n : ℕ) → tryDay r DayResult.Err past-checks ≡ DayResult.Ok n → r ≡ DayResult.Ok n

@@ -26,8 +26,8 @@ module _ (hours : TradingHours) (inRange : Bool) where
   checked d t = simp (d, t)
 
 module _ {A : Type 0} (error : CalendarError → A) (rest : TradingHours → A) (r : HoursResult) where
-  pub after-hours : (h : TradingHours) (a : A) → HoursResult.Ok h ≡ r → a ≡ rest h → a ≡ tryHours r error rest
-  after-hours h a q e = e ∙ ap (λ (x : HoursResult). tryHours x error rest) q
+  pub past-ok : (h : TradingHours) (a : A) → HoursResult.Ok h ≡ r → a ≡ rest h → a ≡ tryHours r error rest
+  past-ok h a q e = e ∙ ap (λ (x : HoursResult). tryHours x error rest) q
 
-  pub after-hours-error : (e : CalendarError) → HoursResult.Err e ≡ r → error e ≡ tryHours r error rest
-  after-hours-error e q = ap (λ (x : HoursResult). tryHours x error rest) q
+  pub past-error : (e : CalendarError) → HoursResult.Err e ≡ r → error e ≡ tryHours r error rest
+  past-error e q = ap (λ (x : HoursResult). tryHours x error rest) q

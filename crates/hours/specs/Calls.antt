@@ -20,11 +20,11 @@ use Rattle.schedule.specs.Schedule.{session, sessionNew, contains, hoursNew, wi
 unfoldable pub isTime : ℕ → Bool
 isTime time = leb time 86399
 
--- each time is one
+-- both numbers are times
 abbrev pub isSession : Session → Bool
 isSession s = isTime (s .start) && isTime (s .end)
 
--- a part that is absent has no time
+-- an absent part has none
 abbrev pub isOptionalSession : OptionalSession → Bool
 isOptionalSession (OptionalSession.Some s) = isSession s
 isOptionalSession OptionalSession.None = true

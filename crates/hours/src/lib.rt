@@ -1,7 +1,9 @@
 // The calls of src/schedule.rs of the Rust, with the checks of the numbers that a session or an hours record holds. Labels in
 // brackets are those of docs/SCOPE.md.
 ghost use mathlib.Core.Path.{_≡_};
-ghost use Rattle.hours.specs.Calls.{isTime, isSession, isOptionalSession, isOptionalTime, hasTimes, checkedHours, sessionNewResult, sessionContainsResult, tradingHoursNewResult, withEarlyCloseResult, isEarlyCloseResult, marketCloseResult, isOpenAtResult};
+ghost use Rattle.hours.specs.Calls.{isTime, isSession, isOptionalSession, isOptionalTime, hasTimes, checkedHours};
+ghost use Rattle.hours.specs.Calls.{sessionNewResult, sessionContainsResult, tradingHoursNewResult, withEarlyCloseResult};
+ghost use Rattle.hours.specs.Calls.{isEarlyCloseResult, marketCloseResult, isOpenAtResult};
 use error::BoolResult;
 use error::CalendarError;
 use error::TimeResult;
@@ -23,6 +25,7 @@ pub fn is_time(time: u32) -> bool
     time <= LAST_TIME
 }
 
+// Whether each number is a time; an absent part has none.
 fn is_session(session: Session) -> bool
     ensures { λ r. ⌜ r ≡ isSession session ⌝ }
 {
@@ -47,7 +50,6 @@ fn is_optional_time(time: OptionalTime) -> bool
     }
 }
 
-// Whether each time that is present is one.
 fn has_times(hours: TradingHours) -> bool
     ensures { λ r. ⌜ r ≡ hasTimes hours ⌝ }
 {

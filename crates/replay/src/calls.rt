@@ -1,6 +1,5 @@
 // The kinds of calls that rows store: the name of each, and the library's answer to its inputs. A new kind is a number
 // here, a name, how many inputs it takes, and a call of the library in `answer`. Kinds in the plural list days.
-use crate::hours::bool_answer;
 use crate::hours::hours_answer;
 use crate::hours::record;
 use crate::hours::session;
@@ -10,6 +9,7 @@ use crate::hours::trading_hours_new;
 use crate::lists;
 use crate::name::Name;
 use crate::numbers::Numbers;
+use trading_calendar::BoolAnswer;
 use trading_calendar::OptionalDate;
 use trading_calendar::tc_calculate_easter;
 use trading_calendar::tc_calculate_easter_monday;
@@ -166,11 +166,21 @@ fn nth_weekday_of_month(year: u32, month: u32, weekday: u32, nth: u32) -> Number
     optional_date(tc_nth_weekday_of_month(year, month, weekday, nth as u8))
 }
 
-// The fields of each C struct, in order.
+// The fields of a C struct, in order; those about hours are in the module `hours`.
 fn optional_date(answer: OptionalDate) -> Numbers {
     let date = answer.date;
     Numbers::new()
         .push(answer.found)
+        .push(date.year)
+        .push(date.month)
+        .push(date.day)
+}
+
+fn bool_answer(answer: BoolAnswer) -> Numbers {
+    let date = answer.date;
+    Numbers::new()
+        .push(answer.error)
+        .push(answer.value)
         .push(date.year)
         .push(date.month)
         .push(date.day)

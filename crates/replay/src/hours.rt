@@ -2,7 +2,6 @@
 use crate::numbers::Numbers;
 use gregorian::Date;
 use schedule::Session;
-use trading_calendar::BoolAnswer;
 use trading_calendar::records::Hours;
 use trading_calendar::trading_hours::HoursAnswer;
 use trading_calendar::trading_hours::SessionAnswer;
@@ -44,16 +43,6 @@ pub fn trading_hours_new(inputs: Numbers) -> HoursAnswer {
         v[8],
         session(v[9], v[10]),
     )
-}
-
-pub fn bool_answer(answer: BoolAnswer) -> Numbers {
-    let date = answer.date;
-    Numbers::new()
-        .push(answer.error)
-        .push(answer.value)
-        .push(date.year)
-        .push(date.month)
-        .push(date.day)
 }
 
 pub fn time_answer(answer: TimeAnswer) -> Numbers {

@@ -2,7 +2,7 @@
 -- Assumes nothing.
 use Prim.Native.Nat.{ℕ, _≤_, _<_}
 use mathlib.Core.Path.{_≡_, refl, ap, sym, _∙_}
-use mathlib.Core.Bool.{Bool, true, false, cond, _&&_, _||_}
+use mathlib.Core.Bool.{Bool, true, false, _&&_, _||_}
 use lib.Dec.{ltb, leb}
 use native.Mathlib.Decide.{decLt}
 use native.Mathlib.Omega.{arith}
@@ -10,7 +10,7 @@ use borrow.Author.Tests.{lt-ltb, le-ltb, le-leb, lt-leb}
 use Rattle.schedule.specs.declared.Session.{Session}
 use Rattle.schedule.specs.declared.OptionalTime.{OptionalTime}
 use Rattle.schedule.specs.declared.TradingHours.{TradingHours}
-use Rattle.schedule.specs.Schedule.{contains, mayContain, isFrom, marketClose, isRegularAt, isAfterHoursAt}
+use Rattle.schedule.specs.Schedule.{contains, mayContain, isReached, marketClose, isRegularAt, isAfterHoursAt}
 
 and-false : (b : Bool) → (b && false) ≡ false
 and-false true = refl
@@ -49,6 +49,6 @@ module _ (hours : TradingHours) (t : ℕ) where
   -- After-hours do not count before an early close.
   pub not-before-early-close : (close : ℕ) → hours .«early_close» ≡ OptionalTime.Some close → t < close → isAfterHoursAt hours t ≡ false
   not-before-early-close close e h =
-      ap (λ (o : OptionalTime). mayContain (hours .«after_hours») t && isFrom o t) e
+      ap (λ (o : OptionalTime). mayContain (hours .«after_hours») t && isReached o t) e
       ∙ ap (λ (b : Bool). mayContain (hours .«after_hours») t && b) (lt-leb close t h)
       ∙ and-false (mayContain (hours .«after_hours») t)

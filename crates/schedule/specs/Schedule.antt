@@ -32,9 +32,9 @@ mayContain (OptionalSession.Some s) time = contains s time
 mayContain OptionalSession.None time = false
 
 -- `if let Some(early_close) = early_close { if time >= early_close { .. } } else { .. }`
-abbrev pub isFrom : OptionalTime → ℕ → Bool
-isFrom (OptionalTime.Some start) time = leb start time
-isFrom OptionalTime.None time = true
+abbrev pub isReached : OptionalTime → ℕ → Bool
+isReached (OptionalTime.Some close) time = leb close time
+isReached OptionalTime.None time = true
 
 -- `early_close.unwrap_or(end)`
 abbrev pub unwrapOr : OptionalTime → ℕ → ℕ
@@ -80,7 +80,7 @@ abbrev pub isRegularAt : TradingHours → ℕ → Bool
 isRegularAt hours time = leb (hours .regular .start) time && ltb time (marketClose hours)
 
 abbrev pub isAfterHoursAt : TradingHours → ℕ → Bool
-isAfterHoursAt hours time = mayContain (hours .«after_hours») time && isFrom (hours .«early_close») time
+isAfterHoursAt hours time = mayContain (hours .«after_hours») time && isReached (hours .«early_close») time
 
 -- TradingHours::is_open_at
 unfoldable pub isOpenAt : TradingHours → ℕ → Bool

@@ -1,12 +1,12 @@
-// Sessions and trading hours, as src/schedule.rs of the Rust, and the hours of each market. A time is a second of the day; every
-// function takes every number. Labels in brackets are those of docs/SCOPE.md.
+// Sessions and trading hours, as src/schedule.rs of the Rust, and the hours of each market. A time is a second of the day, and any
+// other number is taken too. Labels in brackets are those of docs/SCOPE.md.
 pub mod constants;
 pub mod us;
 
 ghost use mathlib.Core.Path.{_≡_};
 ghost use mathlib.Core.Bool.{true};
 ghost use Rattle.gregorian.specs.Calendar.{isDate};
-ghost use Rattle.schedule.specs.Schedule.{sessionNew, contains, mayContain, isFrom, hoursNew, withEarlyClose, isEarlyClose, marketClose, isOpenAt};
+ghost use Rattle.schedule.specs.Schedule.{sessionNew, contains, mayContain, isReached, hoursNew, withEarlyClose, isEarlyClose, marketClose, isOpenAt};
 ghost use Rattle.schedule.specs.MarketHours.{regularHours, tradingHours};
 use constants::LSEMarket;
 use constants::TSEMarket;
@@ -80,7 +80,7 @@ pub enum OptionalTime {
 impl OptionalTime {
     // Whether the time is not before this one, if there is one.
     fn is_reached(self, time: u32) -> bool
-        ensures { λ r. ⌜ r ≡ isFrom self time ⌝ }
+        ensures { λ r. ⌜ r ≡ isReached self time ⌝ }
     {
         match self {
             OptionalTime::Some(early_close) => early_close <= time,

@@ -1,7 +1,7 @@
-// The hours and early closes of NYSE and NASDAQ, as src/markets/us/mod.rs of the Rust.
+// The hours and early closes of NYSE and NASDAQ, as src/markets/us/mod.rs of the Rust. Labels in brackets are those of
+// docs/SCOPE.md.
 ghost use mathlib.Core.Path.{_≡_};
 ghost use mathlib.Core.Bool.{true};
-ghost use Prim.Native.Nat.{_+_};
 ghost use Rattle.gregorian.specs.Calendar.{isDate};
 ghost use Rattle.days.specs.Days.{isDay};
 ghost use Rattle.schedule.specs.MarketHours.{blackFriday, isEarlyCloseDay, usTradingHours};
@@ -36,7 +36,7 @@ fn is_early_close_day(date: Date) -> bool
         | ((date.month == 12) & (date.day == 24) & !is_weekend(n))
 }
 
-// [trading-hours]: on an early close the after-hours begin with it.
+// [trading-hours], [early-close]: on an early close the after-hours begin with it.
 pub fn trading_hours(date: Date) -> TradingHours
     requires { ⌜ isDate (date .year) (date .month) (date .day) ≡ true ⌝ }
     ensures { λ r. ⌜ r ≡ usTradingHours date ⌝ }

@@ -8,7 +8,7 @@ use Rattle.calendar.specs.declared.DayResult.{DayResult}
 use Rattle.error.specs.declared.BoolResult.{BoolResult}
 use Rattle.hours.specs.Calls.{isTime}
 use Rattle.calendar.specs.Calls.{supportedDay}
-use Rattle.calendar.proofs.CallLaws.{checked-date, supported-day, day-in-years, after-day, after-day-error}
+use Rattle.calendar.proofs.CallLaws.{checked-date, supported-day, day-in-years, past-ok, past-error}
 use Rattle.calendar.proofs.is_open.Statement.{statement}
 use Rattle.calendar.proofs.is_open.Tie as tie
 
@@ -31,10 +31,10 @@ returns c =
     let s = c .before .before .before .before in
     let hours = ap (λ (h : TradingHours). isOpenAt h (s .before .before .before .before .args .time)) (c .before .trading-hours .ensures) in
     let is-open = c .is-open-at .ensures ∙ hours in
-    after-day _ _ _ _ _ (sym (day s)) (λ j. BoolResult.Ok (c .before .before .is-trading-day .ensures j && is-open j))
+    past-ok _ _ _ _ _ (sym (day s)) (λ j. BoolResult.Ok (c .before .before .is-trading-day .ensures j && is-open j))
 
 returns-2 : tie.Need-returns-2
-returns-2 c = after-day-error _ _ _ _ (sym (c .before .e .given .1) ∙ checked (c .before .before .before))
+returns-2 c = past-error _ _ _ _ (sym (c .before .e .given .1) ∙ checked (c .before .before .before))
 
 pub is-open-spec : {M : Type 1} → statement M
 is-open-spec =

@@ -4,7 +4,7 @@ use borrow.Author.Tests.{not-true, not-false}
 use borrow.Author.Needs.{needs}
 use Rattle.calendar.specs.declared.DayResult.{DayResult}
 use Rattle.calendar.specs.Calls.{checkedDay, supportedDay}
-use Rattle.calendar.proofs.CallLaws.{error-7, error-1, supported, after-day-error}
+use Rattle.calendar.proofs.CallLaws.{error-7, error-1, supported, past-error}
 use Rattle.calendar.proofs.supported_day.Statement.{statement}
 use Rattle.calendar.proofs.supported_day.Tie as tie
 
@@ -27,7 +27,7 @@ returns-3 c =
 
 returns-4 : tie.Need-returns-4
 unfolding supportedDay
-returns-4 c = after-day-error _ _ _ _ (sym (c .before .e .given .1) ∙ c .before .before .before .checked-day .ensures)
+returns-4 c = past-error _ _ _ _ (sym (c .before .e .given .1) ∙ c .before .before .before .checked-day .ensures)
 
 pub supported-day-spec : {M : Type 1} → statement M
 supported-day-spec = tie.close (tie.spec (search needs) (search needs) (search needs) returns returns-2 (search needs) returns-3 returns-4)

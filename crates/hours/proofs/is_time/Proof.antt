@@ -1,6 +1,6 @@
 -- `hours::is_time` meets its contract: its one test.
-use Rattle.hours.specs.Calls.{isTime}
 use mathlib.Core.Path.{refl}
+use Rattle.hours.specs.Calls.{isTime}
 use Rattle.hours.proofs.is_time.Statement.{statement}
 use Rattle.hours.proofs.is_time.Tie as tie
 
