@@ -2,11 +2,21 @@
 -- Assumes nothing.
 use Prim.Native.Nat.{ℕ, zero, suc, _-_, _≤_, _<_}
 use mathlib.Core.Path.{_≡_, refl, ap, sym, _∙_}
+use mathlib.Core.Bool.{true, false}
 use native.Mathlib.Omega.{arith}
 use Rattle.gregorian.specs.declared.Date.{Date}
 use Rattle.gregorian.proofs.Total.{upto}
 use Rattle.schedule.specs.declared.TradingHours.{TradingHours}
-use Rattle.schedule.specs.MarketHours.{usTradingHours, tsxTradingHours, tradingHours}
+use Rattle.schedule.specs.MarketHours.{isEarlyCloseDay, usRegularHours, usEarlyHours, usTradingHours, tsxTradingHours, tradingHours}
+
+module _ (date : Date) where
+  pub early-hours : isEarlyCloseDay date ≡ true → usEarlyHours date ≡ usTradingHours date
+  unfolding usTradingHours
+  early-hours e = simp e
+
+  pub other-hours : isEarlyCloseDay date ≡ false → usRegularHours date ≡ usTradingHours date
+  unfolding usTradingHours
+  other-hours e = simp e
 
 -- NYSE and NASDAQ
 pub us-hours : (m : ℕ) → m < 2 → tradingHours m ≡ usTradingHours

@@ -7,10 +7,12 @@ use lib.Dec.{ltb, leb}
 use native.Mathlib.Decide.{decLt}
 use native.Mathlib.Omega.{arith}
 use borrow.Author.Tests.{lt-ltb, le-ltb, le-leb, lt-leb}
+use Rattle.error.specs.declared.CalendarError.the-variants.{InvalidTime}
 use Rattle.schedule.specs.declared.Session.{Session}
 use Rattle.schedule.specs.declared.OptionalTime.{OptionalTime}
 use Rattle.schedule.specs.declared.TradingHours.{TradingHours}
-use Rattle.schedule.specs.Schedule.{contains, mayContain, isReached, marketClose, isRegularAt, isAfterHoursAt}
+use Rattle.schedule.specs.declared.HoursResult.{HoursResult}
+use Rattle.schedule.specs.Schedule.{contains, mayContain, isReached, marketClose, isRegularAt, isAfterHoursAt, setEarlyClose, withEarlyClose}
 
 and-false : (b : Bool) → (b && false) ≡ false
 and-false true = refl
@@ -45,6 +47,15 @@ module _ (hours : TradingHours) (t : ℕ) where
   -- Regular hours that close no later than they open, as those over midnight do without an early close, are never open.
   pub never-regular : marketClose hours ≤ hours .regular .start → isRegularAt hours t ≡ false
   never-regular h = from-and-before (hours .regular .start) (marketClose hours) t h
+
+  -- An early close is refused unless it is before the regular end.
+  pub late : hours .regular .end ≤ t → HoursResult.Err InvalidTime ≡ withEarlyClose hours t
+  unfolding withEarlyClose
+  late h = simp (le-leb (hours .regular .end) t h)
+
+  pub early : t < hours .regular .end → HoursResult.Ok (setEarlyClose hours (OptionalTime.Some t)) ≡ withEarlyClose hours t
+  unfolding withEarlyClose
+  early h = simp (lt-leb (hours .regular .end) t h)
 
   -- After-hours do not count before an early close.
   pub not-before-early-close : (close : ℕ) → hours .«early_close» ≡ OptionalTime.Some close → t < close → isAfterHoursAt hours t ≡ false

@@ -29,21 +29,25 @@ isEarlyCloseDay date =
     || eqb (date .month) 7 && eqb (date .day) 3 && not (isWeekend (n + 1))
     || eqb (date .month) 12 && eqb (date .day) 24 && not (isWeekend n)
 
--- USMarket::trading_hours: 9:30 to 16:00, pre-market from 4:00, after-hours to 20:00; on an early close to 13:00, with the
--- after-hours from then on
-unfoldable pub usTradingHours : Date → TradingHours
-usTradingHours date =
-    let regular = session 34200 57600 in
-    let pre = OptionalSession.Some (session 14400 34200) in
-    cond (isEarlyCloseDay date)
-    (record {
+-- 9:30 to 16:00, pre-market from 4:00, after-hours to 20:00
+abbrev pub usRegularHours : Date → TradingHours
+usRegularHours date =
+    hoursNew date (session 34200 57600) (OptionalSession.Some (session 14400 34200)) (OptionalSession.Some (session 57600 72000))
+
+-- the early close at 13:00, and the after-hours from then on
+abbrev pub usEarlyHours : Date → TradingHours
+usEarlyHours date =
+    record {
       date = date;
-      «pre_market» = pre;
-      regular = regular;
+      «pre_market» = OptionalSession.Some (session 14400 34200);
+      regular = session 34200 57600;
       «after_hours» = OptionalSession.Some (session 46800 72000);
       «early_close» = OptionalTime.Some 46800;
-    })
-    (hoursNew date regular pre (OptionalSession.Some (session 57600 72000)))
+    }
+
+-- USMarket::trading_hours
+unfoldable pub usTradingHours : Date → TradingHours
+usTradingHours date = cond (isEarlyCloseDay date) (usEarlyHours date) (usRegularHours date)
 
 -- no session before or after, no early close
 abbrev pub regularHours : ℕ → ℕ → Date → TradingHours

@@ -1,21 +1,18 @@
 -- `schedule::TradingHours::with_early_close` meets its contract: not before the regular end, and before it.
 use native.Mathlib.Omega.{arith}
-use borrow.Author.Tests.{le-leb, lt-leb}
-use Rattle.schedule.specs.Schedule.{withEarlyClose}
+use Rattle.schedule.proofs.ScheduleLaws.{late, early}
 use Rattle.schedule.proofs.TradingHours.with_early_close.Statement.{statement}
 use Rattle.schedule.proofs.TradingHours.with_early_close.Tie as tie
 
 returns : tie.Need-returns
-unfolding withEarlyClose
 returns c =
     let a = c .before .before .before .args in
-    simp (le-leb (a .self .regular .end) (a .early-close) (omega arith))
+    late (a .self) (a .early-close) (omega arith)
 
 returns-2 : tie.Need-returns-2
-unfolding withEarlyClose
 returns-2 c =
     let a = c .before .before .before .before .args in
-    simp (lt-leb (a .self .regular .end) (a .early-close) (omega arith))
+    early (a .self) (a .early-close) (omega arith)
 
 pub with-early-close-spec : {M : Type 1} → statement M
 with-early-close-spec = tie.close (tie.spec returns returns-2)
