@@ -33,6 +33,7 @@ abbrev pub isOptionalTime : OptionalTime → Bool
 isOptionalTime (OptionalTime.Some time) = isTime time
 isOptionalTime OptionalTime.None = true
 
+-- each time that is present is one
 unfoldable pub hasTimes : TradingHours → Bool
 hasTimes hours =
     isOptionalSession (hours .«pre_market»)
