@@ -7,7 +7,7 @@
 /* Differences shown of each call; all are counted. */
 enum { SHOWN = 5 };
 
-const uint32_t limits[LIMITS] = {0, 1, 5, 6, 7, 8, 11, 12, 13, 14, 255, 256, 2019, 9998, 9999, 10000, 10001, 65535, 65536,
+const uint32_t limits[LIMITS] = {0, 1, 5, 6, 7, 8, 11, 12, 13, 255, 256, 257, 2019, 9998, 9999, 10000, 10001, 65536, 65537,
                                  INT32_MAX, (uint32_t)INT32_MAX + 1, UINT32_MAX - 1, UINT32_MAX};
 
 numbers of_date(tc_optional_date a) {

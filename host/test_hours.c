@@ -19,7 +19,7 @@ static tally calls[CALLS] = {
     [IS_EARLY] = {.name = "tc_is_early_close", .meant = RECORDS + 2},
     [CLOSE] = {.name = "tc_market_close", .meant = RECORDS + 2},
     [OPEN_AT] = {.name = "tc_is_open_at", .meant = RECORDS * 27 + 20ul * 86401 + 10},
-    [HOURS] = {.name = "tc_trading_hours", .meant = (8ul * 27 + 2ul * 10001) * 14 * 33 + 23ul * 23 * 23 * 23 + 2},
+    [HOURS] = {.name = "tc_trading_hours", .meant = (8ul * 27 + 5ul * 10001) * 14 * 33 + 23ul * 23 * 23 * 23 + 2},
     [OPEN] = {.name = "tc_is_open",
               .meant = (8ul * 13 * 38 + 10001ul * 2) * 14 * 33 + 23ul * 23 * 23 * 23 * 2 + 20ul * 86401 + 2},
 };
@@ -168,10 +168,10 @@ static void every_record(const choices fields) {
  * are none, be they present or not; and of dates that are none. */
 static void records(void) {
     const numbers year = {1, {2024}}, month = {1, {2}}, day = {1, {29}};
-    const numbers no = {1, {0}}, yes = {1, {1}}, either = {2, {0, 1}}, any = {4, {0, 1, 2, UINT32_MAX}};
+    const numbers no = {1, {0}}, yes = {1, {1}}, either = {2, {0, 1}}, any = {4, {0, 1, 2, (uint32_t)INT32_MAX + 1}};
     const numbers three = {3, {28800, 46800, 72000}}, edge = {4, {0, 86399, 86400, UINT32_MAX}}, valid_or_not = {2, {36000, 86400}};
     const numbers year_or_not = {2, {2023, 0}}, day_or_not = {2, {28, 29}};
-    const numbers years = {8, {0, 1, 2023, 2024, 2100, 9999, 10000, UINT32_MAX}}, months = {7, {0, 1, 2, 4, 12, 13, UINT32_MAX}},
+    const numbers years = {8, {0, 1, 2000, 2024, 2100, 9999, 10000, UINT32_MAX}}, months = {7, {0, 1, 2, 4, 12, 13, UINT32_MAX}},
                   days = {8, {0, 1, 28, 29, 30, 31, 32, UINT32_MAX}};
     const choices orders = {year, month, day, either, three, three, three, three, either, three, three, either, three};
     const choices edges = {year, month, day, yes, edge, edge, edge, edge, yes, edge, edge, yes, edge};
@@ -201,7 +201,7 @@ static uint32_t drawn_time(void) {
 
 /* Any dates up to 9999-12-31 and those like 31 February, with any has_ numbers and times. */
 static void drawn_records(void) {
-    static const uint32_t last[] = {9999, 12, 31}, has[] = {0, 1, 2, UINT32_MAX};
+    static const uint32_t last[] = {9999, 12, 31}, has[] = {0, 1, 2, (uint32_t)INT32_MAX + 1};
     static const int has_fields[] = {3, 8, 11};
     for (int i = 0; i < 6000; i++) {
         uint32_t fields[FIELDS];
@@ -214,16 +214,14 @@ static void drawn_records(void) {
     }
 }
 
-/* Every market, and codes of none, in the years around those that trade and at both ends; the US and another market in every year;
- * numbers at and past every limit. */
+/* Every market, and codes of none, in the years around those that trade and at both ends; every market in every year; numbers at
+ * and past every limit. */
 static void all_hours(void) {
     ask_years(hours_on, 2015, 2035);
     ask_years(hours_on, 0, 2);
     ask_years(hours_on, 9998, 10000);
-    for (uint32_t year = 0; year <= 10000; year++) {
-        ask_year(hours_on, year % 2, year);
-        ask_year(hours_on, 2 + year % 3, year);
-    }
+    for (uint32_t market = 0; market <= 4; market++)
+        for (uint32_t year = 0; year <= 10000; year++) ask_year(hours_on, market, year);
     ask_limits(hours_on);
 }
 

@@ -63,8 +63,8 @@ typedef struct {
 } tc_hours_result;
 
 /* Every call takes any numbers at all. A weekday is 0 for Monday to 6 for Sunday [weekday-numbers]. A market is 0 NYSE,
- * 1 NASDAQ, 2 LSE, 3 TSE or 4 TSX [markets]. A time is a second of the day [time]. Of the errors that a call names, the first that
- * applies is the answer. */
+ * 1 NASDAQ, 2 LSE, 3 TSE or 4 TSX [markets]. A time is a second of the day, 0 to 86399, on the exchange's own clock; no call knows
+ * time zones, the host converts [time] [left-out]. Of the errors that a call names, the first that applies is the answer. */
 
 /* The first such weekday of the month, and nth - 1 weeks on [nth-weekday]. None if that day's month has another number
  * (its year is not compared), if nth is 0, or if the weekday, the month, the year or the answer is out of range. */
@@ -91,11 +91,14 @@ tc_bool_result tc_is_trading_day(uint32_t market, uint32_t year, uint32_t month,
 tc_bool_result tc_is_holiday(uint32_t market, uint32_t year, uint32_t month, uint32_t day);
 
 /* The hours of the market on a date of any year, be it a trading day or not [trading-hours], with the early closes of the US
- * [early-close]. Error 8 if there is no such market, 5 if there is no such date. */
+ * [early-close]: there regular.end stays, early_close is set, and after_hours begin with it; tc_market_close gives the close.
+ * Error 8 if there is no such market, 5 if there is no such date. */
 tc_hours_result tc_trading_hours(uint32_t market, uint32_t year, uint32_t month, uint32_t day);
 
-/* Whether the date is a trading day of the market and its hours on that date are open at the time [is-open]. Error 8 if there is
- * no such market, 5 if there is no such date, 7 if there is no such time, 1 if the year is outside 2020 to 2030. */
+/* Whether the date is a trading day of the market and its hours on that date are open at the time [is-open]. Pre-market and
+ * after-hours count as open: the US is open from 14400 to 72000 on every trading day, early closes too. For the regular session
+ * alone compare with regular.start and tc_market_close. Error 8 if there is no such market, 5 if there is no such date, 7 if there
+ * is no such time, 1 if the year is outside 2020 to 2030. */
 tc_bool_result tc_is_open(uint32_t market, uint32_t year, uint32_t month, uint32_t day, uint32_t time);
 
 /* The session from start to end, over midnight if the end is before the start [session-new]. Error 7 if there is no such time,

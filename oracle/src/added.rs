@@ -9,8 +9,8 @@ use std::hint::black_box;
 
 const NONE: Answer = [0; 5];
 
-const NO_YEARS: &[u32] = &[0, 10000, 10001, 65536, 262142, 262143, 1 << 31, u32::MAX];
-const NO_MONTHS: &[u32] = &[0, 13, 14, 255, 256, 1 << 31, u32::MAX];
+const NO_YEARS: &[u32] = &[0, 10000, 10001, 65537, 262142, 262143, 1 << 31, u32::MAX];
+const NO_MONTHS: &[u32] = &[0, 13, 14, 255, 257, 1 << 31, u32::MAX];
 const NO_WEEKDAYS: &[u32] = &[7, 8, 255, 256, 1 << 31, u32::MAX];
 pub const NO_MARKETS: &[u32] = &[5, 6, 255, 256, 1 << 31, u32::MAX];
 const MONTHS: &[u32] = &[1, 2, 3, 4, 5, 6, 7, 8, 9, 10, 11, 12];

@@ -4,6 +4,7 @@ use crate::added::NO_MARKETS;
 use crate::call_hours::{HoursCall, HOURS_CALLS};
 use crate::faults::{self, time_places, Part, Wrong};
 use crate::numbers::{every_market, parts, with_each, without_repeats, Numbers};
+use crate::row_inputs_hours::WHOLE;
 use crate::tally::Tally;
 
 const WRONG: Wrong = Wrong {
@@ -12,14 +13,14 @@ const WRONG: Wrong = Wrong {
         [0, 0, 0],
         [0, 1, 1],
         [10000, 1, 1],
-        [1 << 31, 1, 1],
+        [(1 << 31) + 2025, 1, 1],
         [u32::MAX, 1, 1],
         [2025, 0, 1],
         [2025, 13, 1],
-        [2025, u32::MAX, 1],
+        [2025, (1 << 31) + 1, 1],
         [2025, 1, 0],
         [2025, 1, 32],
-        [2025, 1, u32::MAX],
+        [2025, 1, (1 << 31) + 1],
         [2025, 2, 29],
         [2024, 2, 30],
         [1900, 2, 29],
@@ -32,10 +33,6 @@ const WRONG: Wrong = Wrong {
 const SOME_DATES: [[u32; 3]; 3] = [[2020, 1, 1], [2025, 11, 28], [2030, 12, 31]];
 const MORE_DATES: [[u32; 3]; 3] = [[1, 1, 1], [2000, 2, 29], [9999, 12, 31]];
 const SOME_TIMES: [u32; 4] = [0, 34_200, 57_600, 86_399];
-/// An early close of NYSE, with every part.
-const RECORD: [u32; 13] = [
-    2025, 12, 24, 1, 14_400, 34_200, 34_200, 57_600, 1, 46_800, 72_000, 1, 46_800,
-];
 /// The has_ fields of a record, and numbers for them.
 const HAS: [usize; 3] = [3, 8, 11];
 const HAS_NUMBERS: [u32; 4] = [0, 1, 256, u32::MAX];
@@ -136,7 +133,7 @@ fn records() -> Vec<Numbers> {
 
 /// With these has_ fields, and the number in every place of an absent part.
 fn record(has: &[u32], number: u32) -> Numbers {
-    let mut record = RECORD.to_vec();
+    let mut record = WHOLE.to_vec();
     for (&place, &has) in HAS.iter().zip(has) {
         record[place] = has;
     }

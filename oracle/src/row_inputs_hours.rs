@@ -33,14 +33,15 @@ pub const EARLY_SUNDAY: [u32; 3] = [2022, 7, 3];
 pub const CHRISTMAS: [u32; 3] = [2025, 12, 25];
 pub const EXAMPLE_TIME: u32 = 36_000;
 
-/// A Monday, a Saturday, a holiday of all markets but TSE, a leap day, and the first and the last date.
-pub const DAYS: [[u32; 3]; 6] = [
+/// A Monday, a Saturday, a holiday of all markets but TSE, a leap day, the first and the last date, and a Sunday.
+pub const DAYS: [[u32; 3]; 7] = [
     MONDAY,
     [2025, 3, 8],
     CHRISTMAS,
     [2024, 2, 29],
     [1, 1, 1],
     [9999, 12, 31],
+    EARLY_SUNDAY,
 ];
 pub const MONDAY: [u32; 3] = [2025, 3, 10];
 pub const EARLY_CLOSE: [u32; 3] = [2025, 11, 28];
@@ -94,7 +95,9 @@ after-hours with equal ends and an early close: 0 0 0  34200 57600  1 50000 5000
 absent parts with times: 0 14400 34200  34200 57600  0 57600 72000  0 46800
 absent parts with other numbers: 0 4294967295 86400  34200 57600  0 86400 4294967295  0 86400
 has_ fields of 2, 256 and 65536: 2 14400 34200  34200 57600  256 46800 72000  65536 46800
-has_ fields of 4294967295: 4294967295 14400 34200  34200 57600  4294967295 46800 72000  4294967295 46800
+has_ fields of 2147483648: 2147483648 14400 34200  34200 57600  2147483648 46800 72000  2147483648 46800
+a pre-market session after an early close: 1 50000 60000  34200 57600  0 0 0  1 46800
+after-hours before the regular end: 0 0 0  34200 57600  1 50000 72000  0 0
 ";
 
 /// A record with every part, and one with none, but with numbers in their places.

@@ -29,7 +29,8 @@ pub fn trading_hours() -> Vec<Section> {
         let days = days.flat_map(|day| [-1, 0, 1].map(|shift| day + Duration::days(shift)));
         days.map(|day| on(0, numbers_of(day))).collect()
     };
-    let days = "a Monday, a Saturday, 25 December, a leap day, the first and the last date";
+    let days =
+        "a Monday, a Saturday, 25 December, a leap day, the first and the last date, a Sunday";
     let nyse = format!("NYSE, {EARLY_CLOSES}, and the days beside them");
     let answered: Vec<u32> = ANSWERED_YEARS.collect();
     let others = early_closes(2025).map(numbers_of);
@@ -182,6 +183,7 @@ fn around(times: Vec<u32>) -> Vec<u32> {
     all.into_iter().collect()
 }
 
+/// The first second of the day, and the seconds around the regular end.
 fn around_the_regular_end(record: &[u32]) -> Vec<u32> {
-    vec![record[7] - 1, record[7], record[7] + 1]
+    vec![0, record[7] - 1, record[7], record[7] + 1]
 }

@@ -1,7 +1,8 @@
 // The calls of src/calendar.rs of the Rust, on numbers: a market code, and the year, month and day of a date. Labels in
 // brackets are those of docs/SCOPE.md.
 ghost use mathlib.Core.Path.{_≡_};
-ghost use Rattle.calendar.specs.Calls.{isSupported, checkedDay, supportedDay, isTradingDayResult, isHolidayResult, tradingHoursResult, isOpenResult};
+ghost use Rattle.calendar.specs.Calls.{isSupported, checkedDay, supportedDay};
+ghost use Rattle.calendar.specs.Calls.{isTradingDayResult, isHolidayResult, tradingHoursResult, isOpenResult};
 use error::BoolResult;
 use error::CalendarError;
 use gregorian::Date;

@@ -1,7 +1,8 @@
 // The hours record of the header, tc_hours, and what it is inside: there a part that may be absent is an enum. Labels in brackets
 // are those of docs/SCOPE.md.
 ghost use mathlib.Core.Path.{_≡_};
-ghost use Rattle.trading_calendar.specs.Records.{optionalSession, optionalTime, tradingHoursOf, hasSession, sessionOf, hasTime, timeOf, hoursOf};
+ghost use Rattle.trading_calendar.specs.Records.{optionalSession, optionalTime, tradingHoursOf};
+ghost use Rattle.trading_calendar.specs.Records.{hasSession, sessionOf, hasTime, timeOf, hoursOf};
 use gregorian::Date;
 use gregorian::NO_DATE;
 use schedule::OptionalSession;

@@ -2,7 +2,8 @@
 ghost use mathlib.Core.Path.{_≡_};
 ghost use Rattle.gregorian.specs.Calendar.{date};
 ghost use Rattle.calendar.specs.Calls.{tradingHoursResult, isOpenResult};
-ghost use Rattle.hours.specs.Calls.{sessionNewResult, sessionContainsResult, tradingHoursNewResult, withEarlyCloseResult, isEarlyCloseResult, marketCloseResult, isOpenAtResult};
+ghost use Rattle.hours.specs.Calls.{sessionNewResult, sessionContainsResult, tradingHoursNewResult, withEarlyCloseResult};
+ghost use Rattle.hours.specs.Calls.{isEarlyCloseResult, marketCloseResult, isOpenAtResult};
 ghost use Rattle.trading_calendar.specs.Records.{optionalSession, tradingHoursOf};
 ghost use Rattle.trading_calendar.specs.Answers.{boolAnswer, timeAnswer, sessionAnswer, hoursAnswer};
 use crate::BoolAnswer;
@@ -122,7 +123,8 @@ pub extern "C" fn tc_trading_hours_new(
     has_after_hours: u32,
     after_hours: Session,
 ) -> HoursAnswer
-    ensures { λ r. ⌜ r ≡ hoursAnswer (tradingHoursNewResult (date year month day) regular (optionalSession «has_pre_market» «pre_market») (optionalSession «has_after_hours» «after_hours»)) ⌝ }
+    ensures { λ r. ⌜ r ≡ hoursAnswer (tradingHoursNewResult (date year month day) regular
+        (optionalSession «has_pre_market» «pre_market») (optionalSession «has_after_hours» «after_hours»)) ⌝ }
 {
     hours_answer(hours::trading_hours_new(
         Date { year, month, day },
