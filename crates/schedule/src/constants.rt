@@ -1,7 +1,7 @@
 // The seconds of each market, as src/constants.rs of the Rust has them: docs/SCOPE.md [hours]. Each number belongs to the type of
 // its market.
 
-pub struct USMarket {}
+pub struct USMarket;
 
 impl USMarket {
     pub const REGULAR_OPEN: u32 = 34200;
@@ -15,7 +15,7 @@ impl USMarket {
     pub const EARLY_CLOSE: u32 = 46800;
 }
 
-pub struct LSEMarket {}
+pub struct LSEMarket;
 
 impl LSEMarket {
     pub const REGULAR_OPEN: u32 = 28800;
@@ -23,7 +23,7 @@ impl LSEMarket {
     pub const REGULAR_CLOSE: u32 = 59400;
 }
 
-pub struct TSEMarket {}
+pub struct TSEMarket;
 
 impl TSEMarket {
     pub const REGULAR_OPEN: u32 = 32400;
@@ -31,7 +31,7 @@ impl TSEMarket {
     pub const REGULAR_CLOSE: u32 = 54000;
 }
 
-pub struct TSXMarket {}
+pub struct TSXMarket;
 
 impl TSXMarket {
     pub const REGULAR_OPEN: u32 = 34200;
