@@ -10,7 +10,7 @@ use Rattle.gregorian.proofs.Laws.{number-range}
 use Rattle.error.specs.declared.CalendarError.{CalendarError}
 use Rattle.error.specs.declared.CalendarError.the-variants.{UnknownMarket, InvalidDate, TimeOutOfRange, DateOutOfRange}
 use Rattle.calendar.specs.declared.DayResult.{DayResult}
-use Rattle.calendar.specs.Calls.{isSupported, tryDay, checkedDay, supportedDay}
+use Rattle.calendar.specs.Calls.{isSupported, tryDay, checkedDay, checkedYear, supportedDay}
 
 -- where there is a day, there was no error
 no-error : (b : Bool) (e : CalendarError) (x : DayResult) (n : ℕ) → cond b (DayResult.Err e) x ≡ DayResult.Ok n → (b ≡ false) × (x ≡ DayResult.Ok n)
@@ -47,26 +47,21 @@ module _ (market year month day : ℕ) where
       (not-false _ (past₅ .0), cc (past₅ .1))
 
   module _ (inRange : Bool) where
-    abbrev past-checks : ℕ → DayResult
-    past-checks n =
-        cond (not inRange) (DayResult.Err TimeOutOfRange)
-        (cond (not (isSupported year)) (DayResult.Err (DateOutOfRange (date year month day))) (DayResult.Ok n))
-
     module _ (n : ℕ) (q : DayResult.Ok n ≡ checkedDay market year month day) where
       pub error-7 : inRange ≡ false → DayResult.Err TimeOutOfRange ≡ supportedDay market year month day inRange
       unfolding supportedDay
-      error-7 r = past-ok DayResult.Err past-checks _ n _ q (simp r)
+      error-7 r = past-ok DayResult.Err (checkedYear year month day inRange) _ n _ q (simp r)
 
       pub error-1 : inRange ≡ true → isSupported year ≡ false → DayResult.Err (DateOutOfRange (date year month day)) ≡ supportedDay market year month day inRange
       unfolding supportedDay
-      error-1 r s = past-ok DayResult.Err past-checks _ n _ q (simp (r, s))
+      error-1 r s = past-ok DayResult.Err (checkedYear year month day inRange) _ n _ q (simp (r, s))
 
       pub supported : inRange ≡ true → isSupported year ≡ true → DayResult.Ok n ≡ supportedDay market year month day inRange
       unfolding supportedDay
-      supported r s = past-ok DayResult.Err past-checks _ n _ q (simp (r, s))
+      supported r s = past-ok DayResult.Err (checkedYear year month day inRange) _ n _ q (simp (r, s))
 
     -- The day past all four is that of the first two.
-    supported-checked : (r : DayResult) (n : ℕ) → tryDay r DayResult.Err past-checks ≡ DayResult.Ok n → r ≡ DayResult.Ok n
+    supported-checked : (r : DayResult) (n : ℕ) → tryDay r DayResult.Err (checkedYear year month day inRange) ≡ DayResult.Ok n → r ≡ DayResult.Ok n
     supported-checked (DayResult.Ok k) n q =
         let past₇ = no-error (not inRange) _ _ n q in
         no-error (not (isSupported year)) _ _ n (past₇ .1) .1

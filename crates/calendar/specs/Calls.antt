@@ -30,14 +30,17 @@ checkedDay market year month day =
     (cond (not (isDate year month day)) (DayResult.Err InvalidDate)
     (DayResult.Ok (dayNumber year month day)))
 
--- Errors 8, 5, 7 and 1 likewise; `inRange` is whether the time is one, and true for a call that takes none.
-unfoldable pub supportedDay : ℕ → ℕ → ℕ → ℕ → Bool → DayResult
-supportedDay market year month day inRange =
-    tryDay (checkedDay market year month day) DayResult.Err
-    (λ n.
+-- Errors 7 and 1 likewise, for the day n of that date; `inRange` is whether the time is one, and true for a call that takes none.
+abbrev pub checkedYear : ℕ → ℕ → ℕ → Bool → ℕ → DayResult
+checkedYear year month day inRange n =
     cond (not inRange) (DayResult.Err TimeOutOfRange)
     (cond (not (isSupported year)) (DayResult.Err (DateOutOfRange (date year month day)))
-    (DayResult.Ok n)))
+    (DayResult.Ok n))
+
+-- errors 8, 5, 7 and 1
+unfoldable pub supportedDay : ℕ → ℕ → ℕ → ℕ → Bool → DayResult
+supportedDay market year month day inRange =
+    tryDay (checkedDay market year month day) DayResult.Err (checkedYear year month day inRange)
 
 -- is_trading_day
 abbrev pub isTradingDayResult : ℕ → ℕ → ℕ → ℕ → BoolResult
