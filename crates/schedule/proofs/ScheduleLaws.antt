@@ -49,13 +49,13 @@ module _ (hours : TradingHours) (t : ℕ) where
   never-regular h = from-and-before (hours .regular .start) (marketClose hours) t h
 
   -- An early close is refused unless it is before the regular end.
-  pub late : hours .regular .end ≤ t → HoursResult.Err InvalidTime ≡ withEarlyClose hours t
+  pub late-close : hours .regular .end ≤ t → HoursResult.Err InvalidTime ≡ withEarlyClose hours t
   unfolding withEarlyClose
-  late h = simp (le-leb (hours .regular .end) t h)
+  late-close h = simp (le-leb (hours .regular .end) t h)
 
-  pub early : t < hours .regular .end → HoursResult.Ok (setEarlyClose hours (OptionalTime.Some t)) ≡ withEarlyClose hours t
+  pub early-close : t < hours .regular .end → HoursResult.Ok (setEarlyClose hours (OptionalTime.Some t)) ≡ withEarlyClose hours t
   unfolding withEarlyClose
-  early h = simp (lt-leb (hours .regular .end) t h)
+  early-close h = simp (lt-leb (hours .regular .end) t h)
 
   -- After-hours do not count before an early close.
   pub not-before-early-close : (close : ℕ) → hours .«early_close» ≡ OptionalTime.Some close → t < close → isAfterHoursAt hours t ≡ false
