@@ -17,7 +17,8 @@ typedef struct {
 numbers of_date(tc_optional_date answer);
 numbers of_bool(tc_bool_result answer);
 
-/* A call by its name, how many comparisons of it are meant, so that a loop cut short is seen, and how many were made and differ. */
+/* A call, or a law of several calls, by its name, how many comparisons of it are meant, so that a loop cut short is seen, and how
+ * many were made and differ. */
 typedef struct {
     const char *name;
     unsigned long meant, compared, differ;

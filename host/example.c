@@ -1,16 +1,22 @@
 /* Prints the moving days of a year that the markets' rules rest on; for each market its regular hours, its trading days, counted,
- * and its holidays, be they on weekends or not; and when NYSE closes early: usage: example YEAR. */
+ * and its holidays, be they on weekends or not; when NYSE closes early, and its trading days around 25 December: usage:
+ * example YEAR. */
 #include "trading_calendar.h"
 
 #include <stdio.h>
 #include <stdlib.h>
 
+static void print_date(tc_date date) {
+    printf("%04lu-%02lu-%02lu", (unsigned long)date.year, (unsigned long)date.month, (unsigned long)date.day);
+}
+
 static void print(const char *name, tc_optional_date answer) {
+    printf("%-24s ", name);
     if (answer.found)
-        printf("%-24s %04lu-%02lu-%02lu\n", name, (unsigned long)answer.date.year, (unsigned long)answer.date.month,
-               (unsigned long)answer.date.day);
+        print_date(answer.date);
     else
-        printf("%-24s none\n", name);
+        printf("none");
+    printf("\n");
 }
 
 static void print_moving_days(uint32_t year) {
@@ -67,11 +73,20 @@ static void print_regular_hours(uint32_t market, uint32_t year) {
     print_time(regular.end);
 }
 
+/* No error comes here: only near 0001-01-01 and 9999-12-31 is there no such day. The distance is in days, closed ones too. */
+static void print_neighbour(const char *name, tc_trading_day_result answer) {
+    printf("%s: ", name);
+    print_date(answer.date);
+    printf(", distance %lu\n", (unsigned long)answer.distance);
+}
+
 static void print_nyse(uint32_t year) {
     enum { NYSE = 0, TEN = 36000 };
     printf("NYSE closes early on: ");
     print_days(trades_and_closes_early, NYSE, year);
     printf("NYSE on Dec 24 at 10:00: %s\n", tc_is_open(NYSE, year, 12, 24, TEN).value == 1 ? "open" : "closed");
+    print_neighbour("NYSE, last trading day before Dec 25", tc_previous_trading_day(NYSE, year, 12, 25));
+    print_neighbour("NYSE, next trading day after Dec 25", tc_next_trading_day(NYSE, year, 12, 25));
 }
 
 static void print_markets(uint32_t year) {

@@ -90,7 +90,16 @@ int plain_row(uint32_t year, uint32_t month, uint32_t day) {
     return days[r].month == month ? r : -1;
 }
 
+int plain_row_of(tc_date date) { return plain_row(date.year, date.month, date.day); }
+
 int plain_weekday(int r) { return days[r].weekday; }
+
+uint32_t plain_error(uint32_t market, tc_date date) {
+    if (market >= MARKETS) return 8;
+    return plain_row_of(date) < 0 ? 5 : 0;
+}
+
+int plain_is_outside(tc_date date) { return date.year < 2020 || date.year > 2030; }
 
 tc_optional_date plain_nth_weekday_of_month(uint32_t year, uint32_t month, uint32_t weekday, uint8_t nth) {
     int r, place;

@@ -16,6 +16,8 @@ tc_optional_date plain_calculate_good_friday(uint32_t year);
 tc_optional_date plain_calculate_easter_monday(uint32_t year);
 tc_bool_result plain_is_trading_day(uint32_t market, uint32_t year, uint32_t month, uint32_t day);
 tc_bool_result plain_is_holiday(uint32_t market, uint32_t year, uint32_t month, uint32_t day);
+tc_trading_day_result plain_next_trading_day(uint32_t market, uint32_t year, uint32_t month, uint32_t day);
+tc_trading_day_result plain_previous_trading_day(uint32_t market, uint32_t year, uint32_t month, uint32_t day);
 tc_hours_result plain_trading_hours(uint32_t market, uint32_t year, uint32_t month, uint32_t day);
 tc_bool_result plain_is_open(uint32_t market, uint32_t year, uint32_t month, uint32_t day, uint32_t time);
 tc_session_result plain_session_new(uint32_t start, uint32_t end);
@@ -33,7 +35,14 @@ enum { LAST_YEAR = 9999, ROWS = 3652059, MARKETS = 5 };
 enum { JAN = 1, FEB, MAR, APR, MAY, JUN, JUL, AUG, SEP, OCT, NOV, DEC };
 enum { MON, TUE, WED, THU, FRI, SAT, SUN };
 int plain_row(uint32_t year, uint32_t month, uint32_t day);
+int plain_row_of(tc_date date);
 int plain_weekday(int row);
+
+/* The first of the errors 8 and 5 that a market and a date have, or 0; whether a date is outside 2020 to 2030; whether a row, of
+ * any year, is a trading day of the market. */
+uint32_t plain_error(uint32_t market, tc_date date);
+int plain_is_outside(tc_date date);
+int plain_trades(uint32_t market, int row);
 
 /* For plain_fill: enter the holidays and the early closes, once the days are there. */
 void plain_fill_holidays(void);

@@ -34,8 +34,6 @@ static const struct {
     {TSE, 1, JAN, MON, 2},    {TSE, 1, JUL, MON, 3},    {TSE, 1, SEP, MON, 3},    {TSE, 1, OCT, MON, 2},
 };
 
-static int row_of(tc_date date) { return plain_row(date.year, date.month, date.day); }
-
 static void enter(int markets, int row) {
     if (row < 0) {
         fprintf(stderr, "the plain calendar has no such day\n");
@@ -58,7 +56,7 @@ static void enter_moving(int year) {
         int month = moving[i].month, weekday = moving[i].weekday, nth = moving[i].nth;
         tc_optional_date answer = nth == LAST ? plain_last_weekday_of_month(year, month, weekday)
                                               : plain_nth_weekday_of_month(year, month, weekday, (uint8_t)nth);
-        if (year >= moving[i].first_year) enter(moving[i].markets, row_of(answer.date));
+        if (year >= moving[i].first_year) enter(moving[i].markets, plain_row_of(answer.date));
     }
 }
 
@@ -68,8 +66,8 @@ static void enter_others(int year) {
     static const int december[][2] = {{25, 26}, {25, 26}, {25, 26}, {25, 26}, {25, 28}, {27, 28}, {26, 27}};
     int victoria = plain_row(year, MAY, 24), christmas = plain_weekday(plain_row(year, DEC, 25));
 
-    enter(US | LSE | TSX, row_of(plain_calculate_good_friday(year).date));
-    enter(LSE, row_of(plain_calculate_easter_monday(year).date));
+    enter(US | LSE | TSX, plain_row_of(plain_calculate_good_friday(year).date));
+    enter(LSE, plain_row_of(plain_calculate_easter_monday(year).date));
     while (plain_weekday(victoria) != MON) victoria--;
     enter(TSX, victoria);
     for (int i = 0; i < 2; i++) enter(LSE, plain_row(year, DEC, december[christmas][i]));
@@ -115,28 +113,24 @@ void plain_fill_holidays(void) {
 
 static int is_holiday(uint32_t market, int row) { return closed[row] >> market & 1; }
 
-static int is_trading_day(uint32_t market, int row) { return plain_weekday(row) < SAT && !is_holiday(market, row); }
+int plain_trades(uint32_t market, int row) { return plain_weekday(row) < SAT && !is_holiday(market, row); }
 
 /* What holds on the date, or the first error of [errors] that applies. */
 static tc_bool_result ask(int (*holds)(uint32_t, int), uint32_t market, tc_date date) {
-    tc_bool_result answer = {0, 0, {0, 0, 0}};
-    int row = row_of(date);
-    if (market >= MARKETS) {
-        answer.error = 8;
-    } else if (row < 0) {
-        answer.error = 5;
-    } else if (date.year < 2020 || date.year > 2030) {
+    tc_bool_result answer = {plain_error(market, date), 0, {0, 0, 0}};
+    if (answer.error != 0) return answer;
+    if (plain_is_outside(date)) {
         answer.error = 1;
         answer.date = date;
     } else {
-        answer.value = (uint32_t)holds(market, row);
+        answer.value = (uint32_t)holds(market, plain_row_of(date));
     }
     return answer;
 }
 
 tc_bool_result plain_is_trading_day(uint32_t market, uint32_t year, uint32_t month, uint32_t day) {
     tc_date date = {year, month, day};
-    return ask(is_trading_day, market, date);
+    return ask(plain_trades, market, date);
 }
 
 tc_bool_result plain_is_holiday(uint32_t market, uint32_t year, uint32_t month, uint32_t day) {

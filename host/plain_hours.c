@@ -86,7 +86,7 @@ static tc_hours tidy(tc_hours hours) {
 static uint32_t error_of(tc_hours hours, uint32_t time) {
     const uint32_t times[] = {hours.pre_market.start,  hours.pre_market.end,  hours.regular.start, hours.regular.end,
                               hours.after_hours.start, hours.after_hours.end, hours.early_close,   time};
-    if (plain_row(hours.date.year, hours.date.month, hours.date.day) < 0) return 5;
+    if (plain_row_of(hours.date) < 0) return 5;
     for (size_t i = 0; i < sizeof times / sizeof times[0]; i++)
         if (times[i] >= SECONDS) return 7;
     return 0;
@@ -162,18 +162,11 @@ tc_bool_result plain_is_open_at(tc_hours hours, uint32_t time) {
 static const tc_hours *usual_or_early(int row) { return &by_market[closes_early[row] ? US_EARLY : US_USUAL]; }
 
 tc_hours_result plain_trading_hours(uint32_t market, uint32_t year, uint32_t month, uint32_t day) {
-    tc_hours_result answer = {.error = 0};
-    int row = plain_row(year, month, day);
-    if (market >= MARKETS) {
-        answer.error = 8;
-    } else if (row < 0) {
-        answer.error = 5;
-    } else {
-        answer.hours = market >= LSE ? by_market[market] : *usual_or_early(row);
-        answer.hours.date.year = year;
-        answer.hours.date.month = month;
-        answer.hours.date.day = day;
-    }
+    tc_date date = {year, month, day};
+    tc_hours_result answer = {.error = plain_error(market, date)};
+    if (answer.error != 0) return answer;
+    answer.hours = market >= LSE ? by_market[market] : *usual_or_early(plain_row_of(date));
+    answer.hours.date = date;
     return answer;
 }
 

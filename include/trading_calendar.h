@@ -45,6 +45,14 @@ typedef struct {
     tc_date date;
 } tc_bool_result;
 
+/* error is 0, date is the answer, distance the days from the date given to it, 1 or more [distance], and outside 1 if either date
+ * is outside 2020 to 2030, else 0 [outside]; or error is a number of [errors], and every other field is 0 [reading-error-6]. */
+typedef struct {
+    uint32_t error;
+    tc_date date;
+    uint32_t distance, outside;
+} tc_trading_day_result;
+
 /* error is 0 and seconds is a time of the day; or error is a number of [errors], and seconds is 0. */
 typedef struct {
     uint32_t error, seconds;
@@ -89,6 +97,15 @@ tc_bool_result tc_is_trading_day(uint32_t market, uint32_t year, uint32_t month,
 
 /* Whether the date is a holiday of the market, be it on a weekend or not [is-holiday]. The same errors. */
 tc_bool_result tc_is_holiday(uint32_t market, uint32_t year, uint32_t month, uint32_t day);
+
+/* The first trading day of the market after a date of any year, be that a trading day or not [next]. There is no error 1: where
+ * tc_is_trading_day would give it, on the date or on the answer, outside is 1. Error 8 if there is no such market, 5 if there is no
+ * such date, 6 if no trading day is left up to 9999-12-31. */
+tc_trading_day_result tc_next_trading_day(uint32_t market, uint32_t year, uint32_t month, uint32_t day);
+
+/* The last trading day of the market before a date of any year [previous]. The same errors, 6 if no trading day is left down to
+ * 0001-01-01. */
+tc_trading_day_result tc_previous_trading_day(uint32_t market, uint32_t year, uint32_t month, uint32_t day);
 
 /* The hours of the market on a date of any year, be it a trading day or not [trading-hours], with the early closes of the US
  * [early-close]: there regular.end stays, early_close is set, and after_hours begin with it; tc_market_close gives the close.

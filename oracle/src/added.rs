@@ -7,7 +7,7 @@ use crate::{original, ANSWERED_YEARS, LAST_YEAR, YEARS};
 use chrono::NaiveDate;
 use std::hint::black_box;
 
-const NONE: Answer = [0; 5];
+const NONE: Answer = [0; 6];
 
 const NO_YEARS: &[u32] = &[0, 10000, 10001, 65537, 262142, 262143, 1 << 31, u32::MAX];
 const NO_MONTHS: &[u32] = &[0, 13, 14, 255, 257, 1 << 31, u32::MAX];
@@ -23,15 +23,20 @@ const SOME_DAYS: &[u32] = &[1, 15, 28];
 const SOME_COUNTS: &[u32] = &[1, 2, 5, 53, 255];
 /// For a number that the call does not take.
 const UNUSED: &[u32] = &[0];
+/// For each market its last trading day of December 9999, and its first of January of the year 1.
+const LAST_TRADING_DAYS: [u32; 5] = [31, 31, 31, 30, 31];
+const FIRST_TRADING_DAYS: [u32; 5] = [2, 2, 2, 4, 2];
 
 /// Whether all is right.
 pub fn run() -> bool {
     let easters = [Call::Easter, Call::GoodFriday, Call::EasterMonday];
     let days = [Call::Holiday, Call::TradingDay];
+    let neighbours = [Call::NextTradingDay, Call::PreviousTradingDay];
     let right = [overflows(), nth_weekday(), last_weekday()]
         .into_iter()
         .chain(easters.map(easter))
-        .chain(days.map(day));
+        .chain(days.map(|call| day(call, 1)))
+        .chain(neighbours.map(|call| day(call, 6) & no_neighbour(call)));
     // Each is run, also after one that is not right.
     right.fold(true, |all, right| all & right)
 }
@@ -90,8 +95,8 @@ fn easter(call: Call) -> bool {
         & none(call, "a year above 9999", above)
 }
 
-/// is_holiday and is_trading_day: errors 8, 5, 1, the first that applies.
-fn day(call: Call) -> bool {
+/// Errors 8, 5 and the last of the call, which is 1 or 6: the first that applies.
+fn day(call: Call, last: u32) -> bool {
     let answered: Vec<u32> = ANSWERED_YEARS.collect();
     let mut others: Vec<u32> = YEARS.filter(|year| !answered.contains(year)).collect();
     others.extend(NO_YEARS);
@@ -101,11 +106,40 @@ fn day(call: Call) -> bool {
     let markets = all_of(NO_MARKETS, &answered, MONTHS, SOME_DAYS);
     let markets_first = all_of(NO_MARKETS, &years, AROUND_MONTHS, AROUND_DAYS);
     let years_out = all_of(MARKETS, NO_YEARS, MONTHS, SOME_DAYS);
+    let market_first = format!("a market above 4, before 5 and {last}");
+    let date_first = format!("no date, other years, before {last}");
+    let year_out = format!("a year outside 1 to 9999, before {last}");
     error(call, 8, "a market above 4", markets)
-        & error(call, 8, "a market above 4, before 5 and 1", markets_first)
+        & error(call, 8, &market_first, markets_first)
         & error(call, 5, "no date, years 2020 to 2030", no_dates(&answered))
-        & error(call, 5, "no date, other years, before 1", no_dates(&others))
-        & error(call, 5, "a year outside 1 to 9999, before 1", years_out)
+        & error(call, 5, &date_first, no_dates(&others))
+        & error(call, 5, &year_out, years_out)
+}
+
+/// Error 6. The original goes on, into the year 10000 or the year 0, which is shown at every input.
+fn no_neighbour(call: Call) -> bool {
+    let inputs = without_neighbour(call);
+    let right = error(call, 6, "no trading day left", inputs.iter().copied());
+    for input in &inputs[1..] {
+        println!("    at {input:?}: {}", call.original(*input));
+    }
+    right
+}
+
+/// Every input of next_trading_day, or of previous_trading_day, with error 6.
+pub fn without_neighbour(call: Call) -> Vec<Input> {
+    let of_market = |market: u32| match call {
+        Call::NextTradingDay => {
+            let days = LAST_TRADING_DAYS[market as usize]..=31;
+            days.map(|day| [market, LAST_YEAR, 12, day]).collect()
+        }
+        Call::PreviousTradingDay => {
+            let days = 1..=FIRST_TRADING_DAYS[market as usize];
+            days.map(|day| [market, 1, 1, day]).collect()
+        }
+        _ => vec![],
+    };
+    MARKETS.iter().copied().flat_map(of_market).collect()
 }
 
 /// Months and days of these years that the Gregorian calendar does not have.
@@ -142,7 +176,7 @@ fn none(call: Call, name: &str, inputs: impl Iterator<Item = Input> + Clone) -> 
 
 fn error(call: Call, number: u32, name: &str, inputs: impl Iterator<Item = Input> + Clone) -> bool {
     let title = format!("{}, error {number} for {name}", call.name());
-    check(call, title, [number, 0, 0, 0, 0], "an error", inputs)
+    check(call, title, [number, 0, 0, 0, 0, 0], "an error", inputs)
 }
 
 /// Compares the library with the answer that is due, and shows what the original does.

@@ -8,7 +8,7 @@ use crate::{bench_parts, ANSWERED_YEARS};
 use chrono::NaiveDate;
 use std::hint::black_box;
 use std::slice;
-use trading_calendar::TradingHours;
+use trading_calendar::{TradingCalendar, TradingHours};
 
 /// The time that is_open and is_open_at are asked about, in the regular hours of every market.
 const TIME: u32 = 36_000;
@@ -23,42 +23,54 @@ pub fn run() {
     is_trading_day("All days of 2020 to 2030", &days);
     is_trading_day("Decembers of 2020 to 2030", &decembers);
     bench_parts::run(&days);
-    trading_hours(&days);
+    on_days(
+        "next_trading_day. All days of 2020 to 2030",
+        &days,
+        TradingCalendar::next_trading_day,
+        tc_next_trading_day,
+    );
+    on_days(
+        "previous_trading_day. All days of 2020 to 2030",
+        &days,
+        TradingCalendar::previous_trading_day,
+        tc_previous_trading_day,
+    );
+    on_days(
+        "trading_hours. All days of 2020 to 2030",
+        &days,
+        TradingCalendar::trading_hours,
+        tc_trading_hours,
+    );
     is_open_at(&days);
     is_open(&days);
 }
 
 fn is_trading_day(title: &str, days: &Days) {
-    let calendars = calendars();
-    sides(
+    on_days(
         &format!("is_trading_day. {title}"),
         days,
-        |market, (_, date)| {
-            let _ = black_box(calendars[market].is_trading_day(black_box(*date)));
-        },
-        |market, (date, _)| {
-            let Date { year, month, day } = black_box(*date);
-            black_box(tc_is_trading_day(
-                black_box(market as u32),
-                year,
-                month,
-                day,
-            ));
-        },
+        TradingCalendar::is_trading_day,
+        tc_is_trading_day,
     );
 }
 
-fn trading_hours(days: &Days) {
+/// A call on a market and a date.
+fn on_days<A, B>(
+    title: &str,
+    days: &Days,
+    original: impl Fn(&TradingCalendar, NaiveDate) -> A,
+    library: OnDate<B>,
+) {
     let calendars = calendars();
     sides(
-        "trading_hours. All days of 2020 to 2030",
+        title,
         days,
         |market, (_, date)| {
-            black_box(calendars[market].trading_hours(black_box(*date)));
+            black_box(original(&calendars[market], black_box(*date)));
         },
         |market, (date, _)| {
             let Date { year, month, day } = black_box(*date);
-            black_box(tc_trading_hours(black_box(market as u32), year, month, day));
+            black_box(library(black_box(market as u32), year, month, day));
         },
     );
 }

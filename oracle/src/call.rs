@@ -17,11 +17,13 @@ pub enum Call {
     EasterMonday,
     Holiday,
     TradingDay,
+    NextTradingDay,
+    PreviousTradingDay,
 }
 
 /// The numbers that a call takes, and the fields of its answer in order. Those that it does not have are 0.
 pub type Input = [u32; 4];
-pub type Answer = [u32; 5];
+pub type Answer = [u32; 6];
 
 impl Call {
     pub fn name(self) -> &'static str {
@@ -33,6 +35,8 @@ impl Call {
             Call::EasterMonday => "calculate_easter_monday",
             Call::Holiday => "is_holiday",
             Call::TradingDay => "is_trading_day",
+            Call::NextTradingDay => "next_trading_day",
+            Call::PreviousTradingDay => "previous_trading_day",
         }
     }
 
@@ -41,7 +45,11 @@ impl Call {
         match self {
             Call::Easter | Call::GoodFriday | Call::EasterMonday => &input[..1],
             Call::LastWeekday => &input[..3],
-            Call::NthWeekday | Call::Holiday | Call::TradingDay => input,
+            Call::NthWeekday
+            | Call::Holiday
+            | Call::TradingDay
+            | Call::NextTradingDay
+            | Call::PreviousTradingDay => input,
         }
     }
 
@@ -54,6 +62,8 @@ impl Call {
             Call::EasterMonday => optional_date(tc_calculate_easter_monday(a)),
             Call::Holiday => bool_result(tc_is_holiday(a, b, c, d)),
             Call::TradingDay => bool_result(tc_is_trading_day(a, b, c, d)),
+            Call::NextTradingDay => trading_day_result(tc_next_trading_day(a, b, c, d)),
+            Call::PreviousTradingDay => trading_day_result(tc_previous_trading_day(a, b, c, d)),
         }
     }
 
@@ -83,6 +93,10 @@ impl Call {
             Call::EasterMonday => date_or_none(calculate_easter_monday(year(a)?).ok()),
             Call::Holiday => yes_or_no(calendar(a)?.is_holiday(date(b, c, d)?)),
             Call::TradingDay => yes_or_no(calendar(a)?.is_trading_day(date(b, c, d)?)),
+            Call::NextTradingDay => calendar(a)?.next_trading_day(date(b, c, d)?).to_string(),
+            Call::PreviousTradingDay => calendar(a)?
+                .previous_trading_day(date(b, c, d)?)
+                .to_string(),
         })
     }
 }
@@ -99,11 +113,21 @@ pub fn catch_panic<T>(ask: impl FnOnce() -> T + UnwindSafe) -> Result<T, String>
 }
 
 fn optional_date(OptionalDate { found, date }: OptionalDate) -> Answer {
-    [found, date.year, date.month, date.day, 0]
+    [found, date.year, date.month, date.day, 0, 0]
 }
 
 fn bool_result(BoolResult { error, value, date }: BoolResult) -> Answer {
-    [error, value, date.year, date.month, date.day]
+    [error, value, date.year, date.month, date.day, 0]
+}
+
+pub fn trading_day_result(answer: TradingDayResult) -> Answer {
+    let TradingDayResult {
+        error,
+        date: Date { year, month, day },
+        distance,
+        outside,
+    } = answer;
+    [error, year, month, day, distance, outside]
 }
 
 fn year(number: u32) -> Option<i32> {

@@ -3,7 +3,9 @@
 use crate::library::*;
 use crate::original::{self, days_of, of_result};
 use crate::tally::Tally;
-use crate::{added, added_hours, compare_hours, ANSWERED_YEARS, LAST_YEAR, YEARS};
+use crate::{
+    added, added_hours, compare_hours, compare_neighbours, ANSWERED_YEARS, LAST_YEAR, YEARS,
+};
 use chrono::NaiveDate;
 use trading_calendar::{Result, TradingCalendar};
 
@@ -30,6 +32,7 @@ pub fn run() -> bool {
             TradingCalendar::is_trading_day,
         ),
         implementations(),
+        compare_neighbours::run(),
         compare_hours::run(),
     ];
     let added = added::run() & added_hours::run();

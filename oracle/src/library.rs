@@ -25,6 +25,15 @@ pub struct BoolResult {
 
 #[repr(C)]
 #[derive(Clone, Copy, Debug, Default, PartialEq, Eq)]
+pub struct TradingDayResult {
+    pub error: u32,
+    pub date: Date,
+    pub distance: u32,
+    pub outside: u32,
+}
+
+#[repr(C)]
+#[derive(Clone, Copy, Debug, Default, PartialEq, Eq)]
 pub struct Session {
     pub start: u32,
     pub end: u32,
@@ -74,6 +83,9 @@ pub struct DayAnswer {
     pub trades: bool,
 }
 
+/// A call on a market and a date.
+pub type OnDate<T> = extern "C" fn(u32, u32, u32, u32) -> T;
+
 // Safe, since every call takes any numbers at all.
 unsafe extern "C" {
     pub safe fn tc_nth_weekday_of_month(
@@ -88,6 +100,18 @@ unsafe extern "C" {
     pub safe fn tc_calculate_easter_monday(year: u32) -> OptionalDate;
     pub safe fn tc_is_trading_day(market: u32, year: u32, month: u32, day: u32) -> BoolResult;
     pub safe fn tc_is_holiday(market: u32, year: u32, month: u32, day: u32) -> BoolResult;
+    pub safe fn tc_next_trading_day(
+        market: u32,
+        year: u32,
+        month: u32,
+        day: u32,
+    ) -> TradingDayResult;
+    pub safe fn tc_previous_trading_day(
+        market: u32,
+        year: u32,
+        month: u32,
+        day: u32,
+    ) -> TradingDayResult;
 
     pub safe fn tc_trading_hours(market: u32, year: u32, month: u32, day: u32) -> HoursResult;
     pub safe fn tc_is_open(market: u32, year: u32, month: u32, day: u32, time: u32) -> BoolResult;

@@ -8,6 +8,7 @@ mod call;
 mod call_hours;
 mod compare;
 mod compare_hours;
+mod compare_neighbours;
 mod compare_records;
 mod faults;
 mod library;
@@ -17,10 +18,12 @@ mod original_hours;
 mod random;
 mod row_inputs;
 mod row_inputs_hours;
+mod row_inputs_neighbours;
 mod row_sections_hours;
 mod row_writer;
 mod rows;
 mod rows_hours;
+mod rows_neighbours;
 mod tally;
 mod times;
 
@@ -40,12 +43,15 @@ fn main() -> ExitCode {
         ["overflows"] => added::overflows(),
         ["rows", "holidays"] => written(rows::run()),
         ["rows", "hours"] => written(rows_hours::run()),
+        ["rows", "neighbours"] => written(rows_neighbours::run()),
         ["bench"] => {
             bench::run();
             true
         }
         _ => {
-            eprintln!("usage: oracle compare|overflows|bench|rows holidays|rows hours");
+            eprintln!(
+                "usage: oracle compare|overflows|bench|rows holidays|rows hours|rows neighbours"
+            );
             false
         }
     };

@@ -1,6 +1,7 @@
 //! The same questions to the original, and its answers in the form of the library's.
 
-use crate::library::{BoolResult, Date, OptionalDate};
+use crate::library::{BoolResult, Date, OptionalDate, TradingDayResult};
+use crate::{ANSWERED_YEARS, YEARS};
 use chrono::{Datelike, NaiveDate, Weekday};
 use trading_calendar::markets::canada::TSXMarket;
 use trading_calendar::markets::japan::TSEMarket;
@@ -83,6 +84,23 @@ pub fn of_result(answer: Result<bool>) -> BoolResult {
         },
         Err(error) => panic!("not an error of this call: {error}"),
     }
+}
+
+/// next_trading_day or previous_trading_day.
+pub type Neighbour = fn(&TradingCalendar, NaiveDate) -> NaiveDate;
+
+/// None where the original leaves the years 1 to 9999. It has no distance and no mark: they come from both dates [distance]
+/// [outside].
+pub fn of_neighbour(given: NaiveDate, answer: NaiveDate) -> Option<TradingDayResult> {
+    let distance = (answer - given).num_days().unsigned_abs() as u32;
+    let [given, date] = [given, answer].map(of_date);
+    let inside = [given, date].map(|date| ANSWERED_YEARS.contains(&date.year));
+    YEARS.contains(&date.year).then_some(TradingDayResult {
+        error: 0,
+        date,
+        distance,
+        outside: u32::from(inside != [true, true]),
+    })
 }
 
 #[inline]

@@ -62,22 +62,7 @@ pub const EDGES: [[u32; 3]; 18] = [
 /// Rules of the library that the original does not have: error, what it is for, inputs.
 pub type OwnRule = (u32, &'static str, &'static [Day]);
 pub const OWN_RULES: [OwnRule; 4] = [
-    (
-        5,
-        "no date",
-        &[
-            [4, 2025, 0, 1],
-            [4, 2025, 13, 1],
-            [4, 2025, 1, 0],
-            [4, 2025, 1, 32],
-            [4, 2025, 2, 29],
-            [4, 2024, 2, 30],
-            [4, 2025, 4, 31],
-            [4, 2025, 12, 32],
-            [4, 2025, u32::MAX, 1],
-            [4, 2025, 1, u32::MAX],
-        ],
-    ),
+    NO_DATE,
     (
         5,
         "no date, before error 1",
@@ -90,17 +75,7 @@ pub const OWN_RULES: [OwnRule; 4] = [
             [0, 1900, 2, 29],
         ],
     ),
-    (
-        8,
-        "no market",
-        &[
-            [5, 2025, 3, 10],
-            [6, 2025, 3, 10],
-            [255, 2025, 3, 10],
-            [256, 2025, 3, 10],
-            [u32::MAX, 2025, 3, 10],
-        ],
-    ),
+    NO_MARKET,
     (
         8,
         "no market, before errors 5 and 1",
@@ -113,6 +88,34 @@ pub const OWN_RULES: [OwnRule; 4] = [
         ],
     ),
 ];
+
+pub const NO_DATE: OwnRule = (
+    5,
+    "no date",
+    &[
+        [4, 2025, 0, 1],
+        [4, 2025, 13, 1],
+        [4, 2025, 1, 0],
+        [4, 2025, 1, 32],
+        [4, 2025, 2, 29],
+        [4, 2024, 2, 30],
+        [4, 2025, 4, 31],
+        [4, 2025, 12, 32],
+        [4, 2025, u32::MAX, 1],
+        [4, 2025, 1, u32::MAX],
+    ],
+);
+pub const NO_MARKET: OwnRule = (
+    8,
+    "no market",
+    &[
+        [5, 2025, 3, 10],
+        [6, 2025, 3, 10],
+        [255, 2025, 3, 10],
+        [256, 2025, 3, 10],
+        [u32::MAX, 2025, 3, 10],
+    ],
+);
 
 /// Years outside 2020 to 2030 whose holidays are listed: around the limits of years and of rules, those of the dates in
 /// docs/DIFFERENCES.md, and every 53rd.

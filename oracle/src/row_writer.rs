@@ -1,5 +1,6 @@
 //! Rows of stored answers, to standard output.
 
+use crate::numbers::{parse, Numbers};
 use std::io::{self, BufWriter, StdoutLock, Write};
 
 pub struct RowWriter(BufWriter<StdoutLock<'static>>);
@@ -15,10 +16,35 @@ impl RowWriter {
         writeln!(self.0, "\n# {text}")
     }
 
+    /// Of rows with an error that the original does not have.
+    pub fn own_rule(&mut self, name: &str, error: u32, about: &str) -> io::Result<()> {
+        self.heading(&format!(
+            "{name}, a rule that the original does not have: error {error}, {about}"
+        ))
+    }
+
     pub fn row(&mut self, name: &str, input: &[u32], answer: &[u32]) -> io::Result<()> {
         let words =
             |numbers: &[u32]| -> String { numbers.iter().map(|n| format!(" {n}")).collect() };
         writeln!(self.0, "{name}{} ={}", words(input), words(answer))
+    }
+
+    /// What is right, and a row with another answer than is due.
+    pub fn wrong_on_purpose(
+        &mut self,
+        name: &str,
+        [right, row]: [&str; 2],
+        due: impl Fn(&[u32]) -> Numbers,
+    ) -> io::Result<()> {
+        let (question, answer) = row.split_once(" = ").expect("a row");
+        let input = parse(question.strip_prefix(name).expect("the call's name"));
+        let (answer, due) = (parse(answer), due(&input));
+        assert!(
+            answer.len() == due.len() && answer != due,
+            "not wrong: {row}"
+        );
+        self.heading(&format!("wrong on purpose: {right}"))?;
+        self.row(name, &input, &answer)
     }
 
     pub fn flush(&mut self) -> io::Result<()> {

@@ -95,9 +95,7 @@ impl Rows {
     }
 
     fn own_rule(&mut self, name: &str, (error, about, days): &OwnRule) -> io::Result<()> {
-        self.out.heading(&format!(
-            "{name}, a rule that the original does not have: error {error}, {about}"
-        ))?;
+        self.out.own_rule(name, *error, about)?;
         for day in *days {
             self.out.row(name, day, &[*error, 0, 0, 0, 0])?;
         }

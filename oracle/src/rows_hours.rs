@@ -1,7 +1,6 @@
 //! Answers of the original as rows for crates/replay/data/hours.txt, to standard output.
 
 use crate::call_hours::HOURS_CALLS;
-use crate::numbers::parse;
 use crate::row_inputs_hours::{HEAD, WRONG_ON_PURPOSE};
 use crate::row_sections_hours::{errors, is_open, records, sessions, trading_hours, Section};
 use crate::row_writer::RowWriter;
@@ -28,9 +27,7 @@ fn write(out: &mut RowWriter, section: &Section) -> io::Result<()> {
     let Section { call, about, .. } = section;
     let name = call.name();
     match section.error {
-        Some(error) => out.heading(&format!(
-            "{name}, a rule that the original does not have: error {error}, {about}"
-        )),
+        Some(error) => out.own_rule(name, error, about),
         None => out.heading(&format!("{name}: {about}")),
     }?;
     for input in &section.inputs {
@@ -45,16 +42,10 @@ fn write(out: &mut RowWriter, section: &Section) -> io::Result<()> {
 
 /// One row of each kind.
 fn wrong_on_purpose(out: &mut RowWriter) -> io::Result<()> {
-    for (call, [right, row]) in HOURS_CALLS.into_iter().zip(WRONG_ON_PURPOSE) {
-        let (question, answer) = row.split_once(" = ").expect("a row");
-        let input = parse(question.strip_prefix(call.name()).expect("the call's name"));
-        let (answer, due) = (parse(answer), call.original(&input).expect("an answer"));
-        assert!(
-            answer.len() == due.len() && answer != due,
-            "not wrong: {row}"
-        );
-        out.heading(&format!("wrong on purpose: {right}"))?;
-        out.row(call.name(), &input, &answer)?;
-    }
-    Ok(())
+    let mut rows = HOURS_CALLS.into_iter().zip(WRONG_ON_PURPOSE);
+    rows.try_for_each(|(call, row)| {
+        out.wrong_on_purpose(call.name(), row, |input| {
+            call.original(input).expect("an answer")
+        })
+    })
 }

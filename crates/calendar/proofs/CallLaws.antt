@@ -46,6 +46,11 @@ module _ (market year month day : ℕ) where
       let past₅ = no-error (not (isDate year month day)) _ _ n (past₈ .1) in
       (not-false _ (past₅ .0), cc (past₅ .1))
 
+  pub checked-in-years : (n : ℕ) → checkedDay market year month day ≡ DayResult.Ok n → (1 ≤ n) × (n ≤ lastDay)
+  checked-in-years n e =
+      let d = checked-date n e in
+      subst (λ (i : ℕ). (1 ≤ i) × (i ≤ lastDay)) (d .1) (number-range year month day (d .0))
+
   module _ (inRange : Bool) where
     module _ (n : ℕ) (q : DayResult.Ok n ≡ checkedDay market year month day) where
       pub error-7 : inRange ≡ false → DayResult.Err TimeOutOfRange ≡ supportedDay market year month day inRange
@@ -72,6 +77,4 @@ module _ (market year month day : ℕ) where
     supported-day n e = supported-checked (checkedDay market year month day) n e
 
     pub day-in-years : (n : ℕ) → supportedDay market year month day inRange ≡ DayResult.Ok n → (1 ≤ n) × (n ≤ lastDay)
-    day-in-years n e =
-        let d = checked-date n (supported-day n e) in
-        subst (λ (i : ℕ). (1 ≤ i) × (i ≤ lastDay)) (d .1) (number-range year month day (d .0))
+    day-in-years n e = checked-in-years n (supported-day n e)

@@ -3,14 +3,18 @@ use Prim.Native.Nat.{ℕ}
 use Rattle.gregorian.specs.declared.Date.{Date}
 use Rattle.gregorian.specs.Calendar.{noDate}
 use Rattle.error.specs.declared.CalendarError.{CalendarError}
-use Rattle.error.specs.declared.CalendarError.the-variants.{UnknownMarket, InvalidDate, TimeOutOfRange, DateOutOfRange, InvalidSession, InvalidTime}
+use Rattle.error.specs.declared.CalendarError.the-variants.{UnknownMarket, InvalidDate, TimeOutOfRange, DateOutOfRange, InvalidDateCalculation, NoTradingDayFound, BufferTooSmall, InvalidSession, InvalidTime}
 
--- InvalidTime is the error of an early close that is not before the regular end, as in the Rust.
+-- InvalidDateCalculation is the error of a month that is none, and InvalidTime that of an early close that is not before the regular
+-- end, as in the Rust.
 unfoldable pub errorNumber : CalendarError → ℕ
 errorNumber UnknownMarket = 8
 errorNumber InvalidDate = 5
 errorNumber TimeOutOfRange = 7
 errorNumber (DateOutOfRange t) = 1
+errorNumber InvalidDateCalculation = 2
+errorNumber NoTradingDayFound = 6
+errorNumber (BufferTooSmall needed) = 9
 errorNumber InvalidSession = 3
 errorNumber InvalidTime = 4
 
@@ -20,5 +24,8 @@ errorDate UnknownMarket = noDate
 errorDate InvalidDate = noDate
 errorDate TimeOutOfRange = noDate
 errorDate (DateOutOfRange t) = t
+errorDate InvalidDateCalculation = noDate
+errorDate NoTradingDayFound = noDate
+errorDate (BufferTooSmall needed) = noDate
 errorDate InvalidSession = noDate
 errorDate InvalidTime = noDate

@@ -4,12 +4,16 @@ ghost use Rattle.error.specs.Errors.{errorNumber, errorDate};
 use gregorian::Date;
 use gregorian::NO_DATE;
 
-// In the order of [errors]. The first three are added: the types of the Rust have no such market, date or time.
+// In the order of [errors]. The first three are added, as the types of the Rust have no such market, date or time; and so is
+// BufferTooSmall, which holds the number of bytes that the answer takes.
 pub enum CalendarError {
     UnknownMarket,
     InvalidDate,
     TimeOutOfRange,
     DateOutOfRange(Date),
+    InvalidDateCalculation,
+    NoTradingDayFound,
+    BufferTooSmall(u32),
     InvalidSession,
     InvalidTime,
 }
@@ -25,6 +29,11 @@ pub enum TimeResult {
     Err(CalendarError),
 }
 
+pub enum CountResult {
+    Ok(u32),
+    Err(CalendarError),
+}
+
 // [errors]
 pub fn number(e: CalendarError) -> u32
     ensures { λ r. ⌜ r ≡ errorNumber e ⌝ }
@@ -34,6 +43,9 @@ pub fn number(e: CalendarError) -> u32
         CalendarError::InvalidDate => 5,
         CalendarError::TimeOutOfRange => 7,
         CalendarError::DateOutOfRange(_) => 1,
+        CalendarError::InvalidDateCalculation => 2,
+        CalendarError::NoTradingDayFound => 6,
+        CalendarError::BufferTooSmall(_) => 9,
         CalendarError::InvalidSession => 3,
         CalendarError::InvalidTime => 4,
     }
@@ -48,6 +60,9 @@ pub fn date(e: CalendarError) -> Date
         CalendarError::InvalidDate => NO_DATE,
         CalendarError::TimeOutOfRange => NO_DATE,
         CalendarError::DateOutOfRange(date) => date,
+        CalendarError::InvalidDateCalculation => NO_DATE,
+        CalendarError::NoTradingDayFound => NO_DATE,
+        CalendarError::BufferTooSmall(_) => NO_DATE,
         CalendarError::InvalidSession => NO_DATE,
         CalendarError::InvalidTime => NO_DATE,
     }

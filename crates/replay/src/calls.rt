@@ -11,6 +11,9 @@ use crate::name::Name;
 use crate::numbers::Numbers;
 use trading_calendar::BoolAnswer;
 use trading_calendar::OptionalDate;
+use trading_calendar::neighbours::TradingDayAnswer;
+use trading_calendar::neighbours::tc_next_trading_day;
+use trading_calendar::neighbours::tc_previous_trading_day;
 use trading_calendar::tc_calculate_easter;
 use trading_calendar::tc_calculate_easter_monday;
 use trading_calendar::tc_calculate_good_friday;
@@ -65,8 +68,12 @@ pub const MARKET_CLOSE: usize = 17;
 
 pub const IS_OPEN_AT: usize = 18;
 
+pub const NEXT_TRADING_DAY: usize = 19;
+
+pub const PREVIOUS_TRADING_DAY: usize = 20;
+
 // How many kinds there are. Where a kind is asked for, it says that there is none.
-pub const KINDS: usize = 19;
+pub const KINDS: usize = 21;
 
 pub fn name(kind: usize) -> Name {
     match kind {
@@ -89,6 +96,8 @@ pub fn name(kind: usize) -> Name {
         IS_EARLY_CLOSE => Name::of(b"is_early_close"),
         MARKET_CLOSE => Name::of(b"market_close"),
         IS_OPEN_AT => Name::of(b"is_open_at"),
+        NEXT_TRADING_DAY => Name::of(b"next_trading_day"),
+        PREVIOUS_TRADING_DAY => Name::of(b"previous_trading_day"),
         _ => Name::new(),
     }
 }
@@ -113,6 +122,7 @@ fn input_count(kind: usize) -> usize {
         TRADING_HOURS_NEW => 11,
         IS_OPEN => 5,
         NTH_WEEKDAY_OF_MONTH | IS_TRADING_DAY | IS_HOLIDAY | TRADING_HOURS => 4,
+        NEXT_TRADING_DAY | PREVIOUS_TRADING_DAY => 4,
         LAST_WEEKDAY_OF_MONTH | TRADING_DAYS | SESSION_CONTAINS => 3,
         HOLIDAYS | HOLIDAYS_ANY_YEAR | SESSION_NEW => 2,
         CALCULATE_EASTER | CALCULATE_GOOD_FRIDAY | CALCULATE_EASTER_MONDAY => 1,
@@ -155,6 +165,8 @@ pub fn answer(kind: usize, inputs: Numbers) -> Numbers {
         IS_EARLY_CLOSE => bool_answer(tc_is_early_close(record(inputs))),
         MARKET_CLOSE => time_answer(tc_market_close(record(inputs))),
         IS_OPEN_AT => bool_answer(tc_is_open_at(record(inputs), v[13])),
+        NEXT_TRADING_DAY => trading_day_answer(tc_next_trading_day(v[0], v[1], v[2], v[3])),
+        PREVIOUS_TRADING_DAY => trading_day_answer(tc_previous_trading_day(v[0], v[1], v[2], v[3])),
         _ => Numbers::new(),
     }
 }
@@ -184,4 +196,15 @@ fn bool_answer(answer: BoolAnswer) -> Numbers {
         .push(date.year)
         .push(date.month)
         .push(date.day)
+}
+
+fn trading_day_answer(answer: TradingDayAnswer) -> Numbers {
+    let date = answer.date;
+    Numbers::new()
+        .push(answer.error)
+        .push(date.year)
+        .push(date.month)
+        .push(date.day)
+        .push(answer.distance)
+        .push(answer.outside)
 }

@@ -34,5 +34,6 @@ fn main() {
     replay(b"weekdays.txt");
     replay(b"holidays.txt");
     replay(b"hours.txt");
+    replay(b"neighbours.txt");
     replay(b"malformed.txt");
 }

@@ -10,8 +10,10 @@ use Rattle.schedule.specs.Schedule.{session}
 use Rattle.error.specs.declared.BoolResult.{BoolResult}
 use Rattle.error.specs.declared.TimeResult.{TimeResult}
 use Rattle.error.specs.Errors.{errorNumber, errorDate}
+use Rattle.calendar.specs.declared.TradingDayResult.{TradingDayResult}
 use Rattle.trading_calendar.specs.declared.OptionalDate.{OptionalDate}
 use Rattle.trading_calendar.specs.declared.BoolAnswer.{BoolAnswer}
+use Rattle.trading_calendar.specs.declared.neighbours.TradingDayAnswer.{TradingDayAnswer}
 use Rattle.trading_calendar.specs.declared.trading_hours.TimeAnswer.{TimeAnswer}
 use Rattle.trading_calendar.specs.declared.trading_hours.SessionAnswer.{SessionAnswer}
 use Rattle.trading_calendar.specs.declared.trading_hours.HoursAnswer.{HoursAnswer}
@@ -31,6 +33,11 @@ flagOf false = 0
 unfoldable pub boolAnswer : BoolResult → BoolAnswer
 boolAnswer (BoolResult.Ok b) = record { error = 0; value = flagOf b; date = noDate }
 boolAnswer (BoolResult.Err e) = record { error = errorNumber e; value = 0; date = errorDate e }
+
+-- Without an error, the day with its distance and its mark; an error has its number, and every other field is 0.
+unfoldable pub tradingDayAnswer : TradingDayResult → TradingDayAnswer
+tradingDayAnswer (TradingDayResult.Ok d) = record { error = 0; date = d .date; distance = d .distance; outside = flagOf (d .outside) }
+tradingDayAnswer (TradingDayResult.Err e) = record { error = errorNumber e; date = noDate; distance = 0; outside = 0 }
 
 -- Without an error, the value; an error has its number, and every other field is 0.
 unfoldable pub timeAnswer : TimeResult → TimeAnswer

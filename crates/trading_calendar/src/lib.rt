@@ -1,5 +1,6 @@
 // The calls that a host in C or Rust makes, and the structs of their answers. Every call takes every number, so none has a
 // `requires`. Labels in brackets are those of docs/SCOPE.md.
+pub mod neighbours;
 pub mod records;
 pub mod trading_hours;
 

@@ -29,7 +29,19 @@ returns-6 : tie.Need-returns-6
 unfolding errorDate
 returns-6 c = ap errorDate (sym (c .enum-told5 .given .1))
 
+returns-7 : tie.Need-returns-7
+unfolding errorDate
+returns-7 c = ap errorDate (sym (c .enum-told6 .given .1))
+
+returns-8 : tie.Need-returns-8
+unfolding errorDate
+returns-8 c = ap errorDate (sym (c .enum-told7 .given .1))
+
+returns-9 : tie.Need-returns-9
+unfolding errorDate
+returns-9 c = ap errorDate (sym (c .enum-told8 .given .1))
+
 pub date-spec : {M : Type 1} → statement M
 date-spec =
     tie.close
-    (tie.spec (search needs) (search needs) (search needs) (search needs) (search needs) (search needs) returns returns-2 returns-3 returns-4 returns-5 returns-6)
+    (tie.spec (search needs) (search needs) (search needs) (search needs) (search needs) (search needs) (search needs) (search needs) (search needs) returns returns-2 returns-3 returns-4 returns-5 returns-6 returns-7 returns-8 returns-9)

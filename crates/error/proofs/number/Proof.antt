@@ -29,7 +29,19 @@ returns-6 : tie.Need-returns-6
 unfolding errorNumber
 returns-6 c = ap errorNumber (sym (c .enum-told6 .given .1))
 
+returns-7 : tie.Need-returns-7
+unfolding errorNumber
+returns-7 c = ap errorNumber (sym (c .enum-told7 .given .1))
+
+returns-8 : tie.Need-returns-8
+unfolding errorNumber
+returns-8 c = ap errorNumber (sym (c .enum-told8 .given .1))
+
+returns-9 : tie.Need-returns-9
+unfolding errorNumber
+returns-9 c = ap errorNumber (sym (c .enum-told9 .given .1))
+
 pub number-spec : {M : Type 1} → statement M
 number-spec =
     tie.close
-    (tie.spec (search needs) (search needs) (search needs) (search needs) (search needs) (search needs) returns returns-2 returns-3 returns-4 returns-5 returns-6)
+    (tie.spec (search needs) (search needs) (search needs) (search needs) (search needs) (search needs) (search needs) (search needs) (search needs) returns returns-2 returns-3 returns-4 returns-5 returns-6 returns-7 returns-8 returns-9)

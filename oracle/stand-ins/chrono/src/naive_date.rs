@@ -31,10 +31,14 @@ impl NaiveDate {
         exists.then(|| pack(year, month, day, day_number::of_date(year, month, day)))
     }
 
+    fn day_number(self) -> i32 {
+        day_number::of_date(self.year(), self.month(), self.day())
+    }
+
     /// Panics, as chrono does, if the date is past the years that there are.
     fn moved(self, days: i64) -> NaiveDate {
-        let start = day_number::of_date(self.year(), self.month(), self.day());
-        let number = i32::try_from(i64::from(start) + days).expect("a day number");
+        let number = i64::from(self.day_number()) + days;
+        let number = i32::try_from(number).expect("a day number");
         let (year, month, day) = day_number::to_date(number);
         assert!(YEARS.contains(&year), "the date is out of range");
         pack(year, month, day, number)
@@ -99,6 +103,15 @@ impl Sub<Duration> for NaiveDate {
     }
 }
 
+/// The difference of the day numbers.
+impl Sub for NaiveDate {
+    type Output = Duration;
+
+    fn sub(self, earlier: NaiveDate) -> Duration {
+        Duration::days(i64::from(self.day_number() - earlier.day_number()))
+    }
+}
+
 impl AddAssign<Duration> for NaiveDate {
     fn add_assign(&mut self, duration: Duration) {
         *self = *self + duration;
@@ -120,13 +133,9 @@ impl Default for NaiveDate {
 
 impl fmt::Display for NaiveDate {
     fn fmt(&self, f: &mut fmt::Formatter<'_>) -> fmt::Result {
-        write!(
-            f,
-            "{:04}-{:02}-{:02}",
-            self.year(),
-            self.month(),
-            self.day()
-        )
+        let sign = if self.year() < 0 { "-" } else { "" };
+        let year = self.year().unsigned_abs();
+        write!(f, "{sign}{year:04}-{:02}-{:02}", self.month(), self.day())
     }
 }
 
@@ -178,6 +187,7 @@ mod tests {
             assert_eq!((it.year(), it.month(), it.day()), (year, 12, 31));
         }
         assert_eq!(date(33, 4, 3).to_string(), "0033-04-03");
+        assert_eq!(date(-1, 12, 31).to_string(), "-0001-12-31");
         assert_eq!(NaiveDate::default().to_string(), "1970-01-01");
     }
 
@@ -191,11 +201,14 @@ mod tests {
             assert!(next > today);
             assert_eq!(next.weekday() as u32, (today.weekday() as u32 + 1) % 7);
             assert_eq!(next - Duration::days(1), today);
+            assert_eq!(next - today, Duration::days(1));
             assert_eq!(date(next.year(), next.month(), next.day()), next);
             today = next;
             days += 1;
         }
         assert_eq!(days, 3_652_059);
+        assert_eq!(today - date(1, 1, 1), Duration::days(3_652_058));
+        assert_eq!(date(1, 1, 1) - today, Duration::days(-3_652_058));
     }
 
     #[test]

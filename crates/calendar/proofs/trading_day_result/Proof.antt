@@ -1,0 +1,23 @@
+-- `calendar::trading_day_result` meets its contract: both arms.
+use mathlib.Core.Path.{_≡_, ap, sym, _∙_, subst}
+use borrow.Author.Needs.{needs}
+use Rattle.utils.specs.Weekday.{InYears}
+use Rattle.calendar.specs.declared.TradingDayResult.{TradingDayResult}
+use Rattle.calendar.specs.RangeCalls.{tradingDayResult}
+use Rattle.calendar.proofs.trading_day_result.Statement.{statement}
+use Rattle.calendar.proofs.trading_day_result.Tie as tie
+
+trading-day-requires : tie.Need-trading-day-requires
+trading-day-requires c κs = subst InYears (c .before .neighbour .given .1) (c .before .before .before .pre)
+
+returns : tie.Need-returns
+unfolding tradingDayResult
+returns c = ap TradingDayResult.Ok (c .trading-day .ensures) ∙ ap (tradingDayResult _ _) (sym (c .before .before .neighbour .given .1))
+
+returns-2 : tie.Need-returns-2
+unfolding tradingDayResult
+returns-2 c = ap (tradingDayResult _ _) (sym (c .enum-told .given .1))
+
+pub trading-day-result-spec : {M : Type 1} → statement M
+trading-day-result-spec =
+    tie.close (tie.spec (search needs) trading-day-requires (search needs) returns returns-2)

@@ -1,0 +1,91 @@
+-- The calls of src/calendar.rs about ranges of days, on numbers: docs/SCOPE.md [next], [previous], [month-list], [count], [errors].
+-- Assumes nothing.
+use Prim.Native.Nat.{ℕ, _-_}
+use mathlib.Core.Bool.{Bool, cond, not, _&&_, _||_}
+use mathlib.Core.List.{List, _++_, map}
+use lib.Dec.{ltb, leb}
+use lib.ListN.{length, drop}
+use Rattle.gregorian.specs.declared.Date.{Date}
+use Rattle.gregorian.specs.Calendar.{monthLength, lastDay, isDate, date, dayNumber, dateOf}
+use Rattle.utils.specs.declared.OptionalDay.{OptionalDay}
+use Rattle.utils.specs.declared.OptionalDay.the-variants.{Day, None}
+use Rattle.markets.specs.Markets.{isTradingDay}
+use Rattle.ranges.specs.Ranges.{tradingDays, nextTradingDay, previousTradingDay, countTradingDays}
+use Rattle.error.specs.declared.CountResult.{CountResult}
+use Rattle.error.specs.declared.CalendarError.{CalendarError}
+use Rattle.error.specs.declared.CalendarError.the-variants.{UnknownMarket, DateOutOfRange, InvalidDateCalculation, NoTradingDayFound, BufferTooSmall}
+use Rattle.calendar.specs.declared.TradingDay.{TradingDay}
+use Rattle.calendar.specs.declared.TradingDayResult.{TradingDayResult}
+use Rattle.calendar.specs.Calls.{isSupported, tryDay, checkedDay}
+
+-- ---- next and previous
+
+-- [distance]: the difference of two day numbers
+unfoldable pub distanceOf : ℕ → ℕ → ℕ
+distanceOf n m = cond (ltb n m) (m - n) (n - m)
+
+-- What a call on day n, which is of that year, tells of its answer; [outside]: the mark is set if either is outside 2020 to 2030.
+unfoldable pub tradingDay : ℕ → ℕ → ℕ → TradingDay
+tradingDay year n m =
+    record { date = dateOf m; distance = distanceOf n m; outside = not (isSupported year) || not (isSupported (dateOf m .year)) }
+
+-- error 6 where there is none
+unfoldable pub tradingDayResult : ℕ → ℕ → OptionalDay → TradingDayResult
+tradingDayResult year n (Day m) = TradingDayResult.Ok (tradingDay year n m)
+tradingDayResult year n None = TradingDayResult.Err NoTradingDayFound
+
+-- next_trading_day
+abbrev pub nextTradingDayResult : ℕ → ℕ → ℕ → ℕ → TradingDayResult
+nextTradingDayResult market year month day =
+    tryDay (checkedDay market year month day) TradingDayResult.Err
+    (λ n. tradingDayResult year n (nextTradingDay (isTradingDay market) lastDay n))
+
+-- previous_trading_day
+abbrev pub previousTradingDayResult : ℕ → ℕ → ℕ → ℕ → TradingDayResult
+previousTradingDayResult market year month day =
+    tryDay (checkedDay market year month day) TradingDayResult.Err
+    (λ n. tradingDayResult year n (previousTradingDay (isTradingDay market) n))
+
+-- ---- the list of a month
+
+-- [month-list]: the trading days of a month, each as its day of the month
+unfoldable pub monthList : ℕ → ℕ → ℕ → List ℕ
+monthList market year month =
+    map (λ n. dateOf n .day)
+    (tradingDays (isTradingDay market) (dayNumber year month 1) (dayNumber year month (monthLength year month)))
+
+-- [month-error-date]
+unfoldable pub monthErrorDate : ℕ → ℕ → Date
+monthErrorDate year month = cond (isDate year month 1) (date year month 1) (date 1970 1 1)
+
+-- how many bytes are written into the buffer; error 9 where they do not fit
+unfoldable pub lentResult : List ℕ → List ℕ → CountResult
+lentResult bytes buffer =
+    cond (ltb (length buffer) (length bytes)) (CountResult.Err (BufferTooSmall (length bytes))) (CountResult.Ok (length bytes))
+
+-- [error-writes-nothing]: what the buffer holds at the end. Without an error the bytes are at its start, and the rest stays.
+abbrev pub finalBuffer : CountResult → List ℕ → List ℕ → List ℕ
+finalBuffer (CountResult.Ok n) bytes buffer = bytes ++ drop (length bytes) buffer
+finalBuffer (CountResult.Err e) bytes buffer = buffer
+
+-- trading_days_in_month: errors 8, 1, 2 and 9
+unfoldable pub tradingDaysInMonthResult : ℕ → ℕ → ℕ → List ℕ → CountResult
+tradingDaysInMonthResult market year month buffer =
+    cond (ltb 4 market) (CountResult.Err UnknownMarket)
+    (cond (not (isSupported year)) (CountResult.Err (DateOutOfRange (monthErrorDate year month)))
+    (cond (not (leb 1 month && leb month 12)) (CountResult.Err InvalidDateCalculation)
+    (lentResult (monthList market year month) buffer)))
+
+abbrev pub tradingDaysInMonthBuffer : ℕ → ℕ → ℕ → List ℕ → List ℕ
+tradingDaysInMonthBuffer market year month buffer =
+    finalBuffer (tradingDaysInMonthResult market year month buffer) (monthList market year month) buffer
+
+-- ---- the count
+
+-- count_trading_days: errors 8, 5 for the start, 5 for the end, and 1 with the start
+abbrev pub countTradingDaysResult : ℕ → ℕ → ℕ → ℕ → ℕ → ℕ → ℕ → CountResult
+countTradingDaysResult market startYear startMonth startDay endYear endMonth endDay =
+    tryDay (checkedDay market startYear startMonth startDay) CountResult.Err
+    (λ start. tryDay (checkedDay market endYear endMonth endDay) CountResult.Err
+    (λ end. cond (ltb startYear 2020 || ltb 2030 endYear) (CountResult.Err (DateOutOfRange (date startYear startMonth startDay)))
+    (CountResult.Ok (countTradingDays (isTradingDay market) start end))))

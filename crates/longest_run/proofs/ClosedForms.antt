@@ -1,0 +1,49 @@
+-- The holidays of a market in a year, in a form that can be computed.
+-- Assumes nothing.
+use Prim.Native.Nat.{ℕ, zero, suc, _≤_}
+use mathlib.Core.Path.{_≡_, refl}
+use mathlib.Core.Bool.{Bool, true, _&&_}
+use mathlib.Core.List.{List, []}
+use lib.Dec.{leb}
+use lib.ListN.{getD}
+use borrow.Author.Tests.{leb-true}
+use Rattle.gregorian.specs.Calendar.{lastYear}
+use Rattle.gregorian.proofs.Tests.{and-left, and-right}
+use Rattle.utils.specs.declared.OptionalDay.the-variants.{Day}
+use Rattle.utils.specs.Weekday.{nthWeekdayOfMonth, targetDay}
+use Rattle.utils.proofs.WeekdayLaws.{nth-early}
+use Rattle.days.specs.Requires.{everyYearHas}
+use Rattle.days.proofs.DayLaws.{every-year-date}
+use Rattle.japan.specs.Japan.{getJapanHolidays, applyGoldenWeekRules, addWithSubstitute, addDayWithSubstitute}
+use Rattle.markets.specs.Us.{getUsHolidays}
+use Rattle.markets.specs.Uk.{getUkHolidays}
+use Rattle.markets.specs.Canada.{getCanadaHolidays}
+use Rattle.markets.specs.Markets.{holidaysByCode, holidays}
+
+-- a month, a weekday, and a number of it up to 4: every year has such a day
+abbrev isEarly : ℕ → ℕ → ℕ → Bool
+isEarly m w n = everyYearHas m 1 && leb w 6 && leb 1 n && leb n 4
+
+-- `nthWeekdayOfMonth` compares the month of a date, which cannot be computed; the first four need no comparison.
+pub early : (y m w n : ℕ) → 1 ≤ y → y ≤ lastYear → isEarly m w n ≡ true → nthWeekdayOfMonth y m w n ≡ Day (targetDay y m w n)
+early y m w n l h e₄ =
+    let t₂ = everyYearHas m 1 && leb w 6 in
+    let t₃ = t₂ && leb 1 n in
+    let e₃ = and-left t₃ _ e₄ in
+    let e₂ = and-left t₂ _ e₃ in
+    nth-early y m w n (every-year-date y m 1 (l, h, and-left (everyYearHas m 1) _ e₂)) (leb-true w 6 (and-right (everyYearHas m 1) _ e₂))
+    (leb-true 1 n (and-right t₂ _ e₃)) (leb-true n 4 (and-right t₃ _ e₄))
+
+pub by-code : (market y : ℕ) → holidays market y ≡ getD holidaysByCode market (λ year. []) y
+unfolding holidays
+by-code market y = refl
+
+-- The list that the definition comes to with `early` everywhere.
+unfoldable pub closedForm : (market y : ℕ) → 1 ≤ y → y ≤ lastYear → (ds : List ℕ) × (holidays market y ≡ ds)
+unfolding getUsHolidays getUkHolidays getCanadaHolidays getJapanHolidays
+closedForm zero y l h = (_, simp (early y) at (by-code 0 y))
+closedForm (suc zero) y l h = (_, simp (early y) at (by-code 1 y))
+closedForm (suc (suc zero)) y l h = (_, simp (early y) at (by-code 2 y))
+closedForm (suc (suc (suc zero))) y l h = (_, simp (early y) at (by-code 3 y))
+closedForm (suc (suc (suc (suc zero)))) y l h = (_, simp (early y) at (by-code 4 y))
+closedForm (suc (suc (suc (suc (suc market))))) y l h = (_, refl)

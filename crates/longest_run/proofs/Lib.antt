@@ -1,0 +1,3 @@
+pub mod ClosedForms
+pub mod Years
+pub mod Markets

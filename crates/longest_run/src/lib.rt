@@ -1,0 +1,1 @@
+// No code: the longest run of non-trading days of each market, and with it the agreement of `ranges` for the five markets.

@@ -1,0 +1,56 @@
+-- `neighbours::next_trading_day` meets its contract: each turn of the loop is one day of the search.
+use Prim.Native.Nat.{ℕ, _+_, _-_, _≤_, _<_}
+use mathlib.Core.Path.{_≡_, refl, sym, _∙_}
+use mathlib.Core.Bool.{Bool}
+use native.Mathlib.Omega.{arith}
+use borrow.Author.Needs.{needs}
+use Rattle.gregorian.specs.Calendar.{lastDay}
+use Rattle.markets.specs.Markets.{isTradingDay}
+use Rattle.ranges.specs.Ranges.{nextTradingDay}
+use Rattle.ranges.proofs.Neighbours.{next-none, next-found, next-passed}
+use Rattle.neighbours.proofs.next_trading_day.Statement.{statement}
+use Rattle.neighbours.proofs.next_trading_day.Tie as tie
+
+-- what is left to search from the day of the loop is all of the search
+abbrev Inv-loop : tie.InvT-loop
+Inv-loop market n next₀ next =
+    (n ≤ next) × (next ≤ lastDay) × (nextTradingDay (isTradingDay market) lastDay n ≡ nextTradingDay (isTradingDay market) lastDay next)
+
+-- the days left in the years
+abbrev μ-loop : tie.MeasureT-loop
+μ-loop market n next₀ next = lastDay - next
+
+loop-holds : tie.Need-loop-holds Inv-loop μ-loop
+loop-holds c = (omega arith, omega arith, refl)
+
+is-trading-day-requires : tie.Need-is-trading-day-requires Inv-loop μ-loop
+is-trading-day-requires c κs = (omega arith, omega arith)
+
+returns : tie.Need-returns Inv-loop μ-loop
+returns c =
+    let s = c .before .before .before in
+    sym
+    (s .loop .inv .2
+    ∙ next-found (isTradingDay (s .before .args .market)) lastDay (s .loop .next) (c .before .before .loop-test .taken)
+    (sym (c .before .is-trading-day .ensures) ∙ c .if1 .taken))
+
+loop-again : tie.Need-loop-again Inv-loop μ-loop
+loop-again c =
+    let s = c .before .before .before in (
+      omega arith,
+      omega arith,
+      s .loop .inv .2
+          ∙ next-passed (isTradingDay (s .before .args .market)) lastDay (s .loop .next) (c .before .before .loop-test .taken)
+          (sym (c .before .is-trading-day .ensures) ∙ c .if1 .left),
+    )
+
+returns-2 : tie.Need-returns-2 Inv-loop μ-loop
+returns-2 c =
+    sym
+    (c .before .loop .inv .2
+    ∙ next-none (isTradingDay (c .before .before .args .market)) lastDay (c .before .loop .next) (c .loop-test .left))
+
+pub next-trading-day-spec : {M : Type 1} → statement M
+next-trading-day-spec =
+    tie.close
+    (tie.spec Inv-loop μ-loop loop-holds (search needs) is-trading-day-requires returns (search needs) loop-again returns-2)

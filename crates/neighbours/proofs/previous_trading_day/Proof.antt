@@ -1,0 +1,54 @@
+-- `neighbours::previous_trading_day` meets its contract: each turn of the loop is one day of the search.
+use Prim.Native.Nat.{ℕ, _+_, _-_, _≤_, _<_}
+use mathlib.Core.Path.{_≡_, refl, sym, _∙_}
+use native.Mathlib.Omega.{arith}
+use borrow.Author.Needs.{needs}
+use Rattle.markets.specs.Markets.{isTradingDay}
+use Rattle.ranges.specs.Ranges.{previousTradingDay}
+use Rattle.ranges.proofs.Neighbours.{previous-none, previous-found, previous-passed}
+use Rattle.neighbours.proofs.previous_trading_day.Statement.{statement}
+use Rattle.neighbours.proofs.previous_trading_day.Tie as tie
+
+-- what is left to search from the day of the loop is all of the search
+abbrev Inv-loop : tie.InvT-loop
+Inv-loop market n previous₀ previous =
+    (1 ≤ previous) × (previous ≤ n) × (previousTradingDay (isTradingDay market) n ≡ previousTradingDay (isTradingDay market) previous)
+
+-- the days left in the years
+abbrev μ-loop : tie.MeasureT-loop
+μ-loop market n previous₀ previous = previous
+
+loop-holds : tie.Need-loop-holds Inv-loop μ-loop
+loop-holds c = (omega arith, omega arith, refl)
+
+is-trading-day-requires : tie.Need-is-trading-day-requires Inv-loop μ-loop
+is-trading-day-requires c κs = (omega arith, omega arith)
+
+returns : tie.Need-returns Inv-loop μ-loop
+returns c =
+    let s = c .before .before .before in
+    sym
+    (s .loop .inv .2
+    ∙ previous-found (isTradingDay (s .before .args .market)) (s .loop .previous) (c .before .before .loop-test .taken)
+    (sym (c .before .is-trading-day .ensures) ∙ c .if1 .taken))
+
+loop-again : tie.Need-loop-again Inv-loop μ-loop
+loop-again c =
+    let s = c .before .before .before in (
+      omega arith,
+      omega arith,
+      s .loop .inv .2
+          ∙ previous-passed (isTradingDay (s .before .args .market)) (s .loop .previous) (c .before .before .loop-test .taken)
+          (sym (c .before .is-trading-day .ensures) ∙ c .if1 .left),
+    )
+
+returns-2 : tie.Need-returns-2 Inv-loop μ-loop
+returns-2 c =
+    sym
+    (c .before .loop .inv .2
+    ∙ previous-none (isTradingDay (c .before .before .args .market)) (c .before .loop .previous) (c .loop-test .left))
+
+pub previous-trading-day-spec : {M : Type 1} → statement M
+previous-trading-day-spec =
+    tie.close
+    (tie.spec Inv-loop μ-loop loop-holds (search needs) is-trading-day-requires returns (search needs) loop-again returns-2)

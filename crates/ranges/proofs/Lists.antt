@@ -1,0 +1,158 @@
+-- Lists of days: joining them, selecting from them, and their mirror image.
+-- Assumes nothing.
+use Prim.Native.Nat.{ℕ, zero, suc, pred, _+_, _-_, _≤_, _<_}
+use mathlib.Core.Path.{_≡_, refl, sym, ap, ap₂, _∙_}
+use mathlib.Core.Bool.{Bool, true, false}
+use mathlib.Core.Logic.{_⊎_, inl, inr, ⊎-elim}
+use mathlib.Core.List.{List, [], _∷_, _++_, append-nil, map, reverse, reverse-append, reverse-cons}
+use lib.Dec.{leb}
+use native.Mathlib.Nat.{zero-add, suc-add, add-zero, add-suc}
+use native.Mathlib.Omega.{arith}
+use borrow.Author.Tests.{leb-true, leb-false}
+use Rattle.ranges.specs.Ranges.{daysFrom, days, keep, select, tradingDays}
+
+-- ---- cases that keep what they rest on
+
+pub test : (t : Bool) → (t ≡ true) ⊎ (t ≡ false)
+test true = inl refl
+test false = inr refl
+
+pub order : (m n : ℕ) → (m ≤ n) ⊎ (n < m)
+order m n = ⊎-elim (λ e. inl (leb-true m n e)) (λ e. inr (leb-false m n e)) (test (leb m n))
+
+-- ---- days
+
+pub from-none : (a : ℕ) → daysFrom a 0 ≡ []
+unfolding daysFrom
+from-none a = refl
+
+pub from-next : (a k : ℕ) → daysFrom a (suc k) ≡ a ∷ daysFrom (suc a) k
+unfolding daysFrom
+from-next a k = refl
+
+pub from-split : (i j a : ℕ) → daysFrom a (i + j) ≡ daysFrom a i ++ daysFrom (a + i) j
+unfolding daysFrom
+from-split zero j a = rw (zero-add, add-zero)
+from-split (suc i) j a = rw (suc-add, from-split i j (suc a), add-suc, suc-add)
+
+pub days-split : (a c b : ℕ) → a ≤ suc c → c ≤ b → days a b ≡ days a c ++ days (suc c) b
+days-split a c b h k =
+    ap (daysFrom a) (omega arith)
+    ∙ from-split (suc c - a) (suc b - suc c) a
+    ∙ ap (λ (x : ℕ). days a c ++ daysFrom x (suc b - suc c)) (omega arith)
+
+pub days-none : (a b : ℕ) → b < a → days a b ≡ []
+days-none a b h = ap (daysFrom a) (omega arith) ∙ from-none a
+
+pub days-next : (a b : ℕ) → a ≤ b → days a b ≡ a ∷ days (suc a) b
+days-next a b h = ap (daysFrom a) (omega arith) ∙ from-next a (suc b - suc a)
+
+-- The mirror image: the days backward are c less the days forward.
+from-last : (k a : ℕ) → daysFrom a (suc k) ≡ daysFrom a k ++ ((a + k) ∷ [])
+from-last k a =
+    let e : suc k ≡ k + 1 = omega arith in
+    ap (daysFrom a) e
+    ∙ from-split k 1 a
+    ∙ ap (λ (l : List ℕ). daysFrom a k ++ l) (from-next (a + k) 0 ∙ ap (λ (l : List ℕ). (a + k) ∷ l) (from-none (suc (a + k))))
+
+-- the last day first
+pub days-last : (a b : ℕ) → 1 ≤ b → a ≤ b → reverse (days a b) ≡ b ∷ reverse (days a (b - 1))
+days-last a b o h =
+    let k : suc b - a ≡ suc (b - a) = omega arith in
+    let e : a + (b - a) ≡ b = omega arith in
+    let l : b - a ≡ suc (b - 1) - a = omega arith in
+    ap (λ (i : ℕ). reverse (daysFrom a i)) k
+    ∙ ap reverse (from-last (b - a) a)
+    ∙ reverse-append (daysFrom a (b - a)) ((a + (b - a)) ∷ [])
+    ∙ ap₂ (λ (i j : ℕ). i ∷ reverse (daysFrom a j)) e l
+
+map-last : (f : ℕ → ℕ) (l : List ℕ) (n : ℕ) → map f (l ++ (n ∷ [])) ≡ map f l ++ (f n ∷ [])
+map-last f [] n = refl
+map-last f (m ∷ l) n = ap (λ (r : List ℕ). f m ∷ r) (map-last f l n)
+
+from-mirror : (k a c : ℕ) → a + k ≤ suc c → reverse (daysFrom a k) ≡ map (λ i. c - i) (daysFrom (suc c - (a + k)) k)
+unfolding daysFrom
+from-mirror zero a c h = refl
+from-mirror (suc k) a c h =
+    let s : ℕ = suc c - (a + suc k) in
+    let e : suc c - (suc a + k) ≡ s = omega arith in
+    let f : a ≡ c - (s + k) = omega arith in
+    reverse-cons a (daysFrom (suc a) k)
+    ∙ ap (λ (l : List ℕ). l ++ (a ∷ [])) (from-mirror k (suc a) c (omega arith))
+    ∙ ap₂ (λ (x y : ℕ). map (λ i. c - i) (daysFrom x k) ++ (y ∷ [])) e f
+    ∙ sym (map-last (λ i. c - i) (daysFrom s k) (s + k))
+    ∙ ap (map (λ i. c - i)) (sym (from-last k s))
+
+pub days-mirror : (a b c : ℕ) → a ≤ suc b → a ≤ c → b ≤ c → reverse (days a b) ≡ map (λ i. c - i) (days (c - b) (c - a))
+days-mirror a b c h l k = from-mirror (suc b - a) a c (omega arith) ∙ ap₂ (λ (x y : ℕ). map (λ i. c - i) (daysFrom x y)) (omega arith) (omega arith)
+
+-- ---- selecting
+
+module _ (p : ℕ → Bool) where
+  pub select-none : select p [] ≡ []
+  unfolding select
+  select-none = refl
+
+  pub select-next : (n : ℕ) (l : List ℕ) → select p (n ∷ l) ≡ keep (p n) n (select p l)
+  unfolding select
+  select-next n l = refl
+
+  keep-append : (t : Bool) (n : ℕ) (x y : List ℕ) → keep t n (x ++ y) ≡ keep t n x ++ y
+  keep-append true n x y = refl
+  keep-append false n x y = refl
+
+  pub select-append : (x y : List ℕ) → select p (x ++ y) ≡ select p x ++ select p y
+  unfolding select
+  select-append [] y = refl
+  select-append (n ∷ x) y = ap (keep (p n) n) (select-append x y) ∙ keep-append (p n) n (select p x) (select p y)
+
+  select-reverse : (l : List ℕ) → select p (reverse l) ≡ reverse (select p l)
+  unfolding select
+  select-reverse [] = refl
+  select-reverse (n ∷ l) =
+      ap (select p) (reverse-cons n l)
+      ∙ select-append (reverse l) (n ∷ [])
+      ∙ ap (λ (r : List ℕ). r ++ keep (p n) n []) (select-reverse l)
+      ∙ last (p n)
+    where
+      last : (t : Bool) → reverse (select p l) ++ keep t n [] ≡ reverse (keep t n (select p l))
+      last true = sym (reverse-cons n (select p l))
+      last false = append-nil (reverse (select p l))
+
+  select-map : (f : ℕ → ℕ) (l : List ℕ) → select p (map f l) ≡ map f (select (λ n. p (f n)) l)
+  unfolding select
+  select-map f [] = refl
+  select-map f (n ∷ l) = ap (keep (p (f n)) (f n)) (select-map f l) ∙ keep-map (p (f n))
+    where
+      keep-map : (t : Bool) → keep t (f n) (map f (select (λ n. p (f n)) l)) ≡ map f (keep t n (select (λ n. p (f n)) l))
+      keep-map true = refl
+      keep-map false = refl
+
+  -- none of the days passes
+  from-fail : (k a : ℕ) → ((i : ℕ) → a ≤ i → i < a + k → p i ≡ false) → select p (daysFrom a k) ≡ []
+  unfolding daysFrom select
+  from-fail zero a h = refl
+  from-fail (suc k) a h = rw (h a (omega arith) (omega arith)) (from-fail k (suc a) (λ i x y. h i (omega arith) (omega arith)))
+
+  pub all-fail : (a b : ℕ) → ((i : ℕ) → a ≤ i → i ≤ b → p i ≡ false) → tradingDays p a b ≡ []
+  all-fail a b h = from-fail (suc b - a) a (λ i x y. h i x (omega arith))
+
+  pub trading-split : (a c b : ℕ) → a ≤ suc c → c ≤ b → tradingDays p a b ≡ tradingDays p a c ++ tradingDays p (suc c) b
+  trading-split a c b h k = ap (select p) (days-split a c b h k) ∙ select-append (days a c) (days (suc c) b)
+
+  -- m is the first from a on that passes
+  pub first-passes : (a m b : ℕ) → a ≤ m → m ≤ b → p m ≡ true → ((i : ℕ) → a ≤ i → i < m → p i ≡ false)
+      → tradingDays p a b ≡ m ∷ tradingDays p (suc m) b
+  first-passes a m b h k e c =
+      ap (λ (x : ℕ). select p (daysFrom a x)) (omega arith)
+      ∙ ap (select p) (from-split (m - a) (suc b - m) a)
+      ∙ select-append (daysFrom a (m - a)) (daysFrom (a + (m - a)) (suc b - m))
+      ∙ ap (λ (l : List ℕ). l ++ select p (daysFrom (a + (m - a)) (suc b - m))) (from-fail (m - a) a (λ i x y. c i x (omega arith)))
+      ∙ ap (λ (x : ℕ). select p (daysFrom x (suc b - m))) (omega arith)
+      ∙ ap (select p) (days-next m b k)
+      ∙ select-next m (days (suc m) b)
+      ∙ ap (λ (t : Bool). keep t m (tradingDays p (suc m) b)) e
+
+  pub trading-mirror : (a b c : ℕ) → a ≤ suc b → a ≤ c → b ≤ c → reverse (tradingDays p a b) ≡ map (λ i. c - i) (tradingDays (λ i. p (c - i)) (c - b) (c - a))
+  trading-mirror a b c h l k =
+      sym (select-reverse (days a b)) ∙ ap (select p) (days-mirror a b c h l k) ∙ select-map (λ i. c - i) (days (c - b) (c - a))

@@ -1,0 +1,69 @@
+-- The laws of the next and the previous trading day: a day of the search, for the loops, and where the answer lies.
+-- Assumes nothing.
+use Prim.Native.Nat.{ℕ, zero, suc, pred, _+_, _-_, _≤_, _<_}
+use mathlib.Core.Path.{_≡_, refl, sym, ap, _∙_, subst}
+use mathlib.Core.Bool.{Bool, true, false}
+use mathlib.Core.List.{List, [], _∷_, reverse}
+use native.Mathlib.Omega.{arith}
+use Rattle.gregorian.specs.Calendar.{lastDay}
+use Rattle.utils.specs.declared.OptionalDay.{OptionalDay}
+use Rattle.utils.specs.declared.OptionalDay.the-variants.{Day, None}
+use Rattle.utils.specs.Weekday.{InYears, mapDay}
+use Rattle.ranges.specs.Ranges.{daysFrom, days, found, find, nextTradingDay, previousTradingDay}
+use Rattle.ranges.proofs.Lists.{days-none, days-next, days-last, days-mirror}
+use Rattle.ranges.proofs.Search.{find-none, find-first, find-map}
+
+module _ (trades : ℕ → Bool) where
+  -- The next one: day m + 1 is looked at, and then the days after it.
+  module _ (last m : ℕ) where
+    pub next-none : last ≤ m → nextTradingDay trades last m ≡ None
+    next-none h = ap (find trades) (days-none (suc m) last (omega arith)) ∙ find-none trades
+
+    next-day : m < last → (t : Bool) → trades (m + 1) ≡ t → nextTradingDay trades last m ≡ found t (m + 1) (nextTradingDay trades last (m + 1))
+    next-day h t e =
+        let one : suc m ≡ m + 1 = omega arith in
+        find-first trades (days (suc m) last) (m + 1) (days (suc (m + 1)) last) (days-next (suc m) last h ∙ ap (λ (i : ℕ). i ∷ days (suc i) last) one) t e
+
+    pub next-found : m < last → trades (m + 1) ≡ true → nextTradingDay trades last m ≡ Day (m + 1)
+    next-found h e = next-day h true e
+
+    pub next-passed : m < last → trades (m + 1) ≡ false → nextTradingDay trades last m ≡ nextTradingDay trades last (m + 1)
+    next-passed h e = next-day h false e
+
+  -- The previous one: day m - 1 is looked at, and then the days before it.
+  module _ (m : ℕ) where
+    pub previous-none : m ≤ 1 → previousTradingDay trades m ≡ None
+    previous-none h = ap (λ (l : List ℕ). find trades (reverse l)) (days-none 1 (pred m) (omega arith)) ∙ find-none trades
+
+    previous-day : 1 < m → (t : Bool) → trades (m - 1) ≡ t → previousTradingDay trades m ≡ found t (m - 1) (previousTradingDay trades (m - 1))
+    previous-day h t e =
+        let one : pred m ≡ m - 1 = omega arith in
+        let two : m - 1 - 1 ≡ pred (m - 1) = omega arith in
+        find-first trades (reverse (days 1 (pred m))) (m - 1) (reverse (days 1 (pred (m - 1))))
+        (ap (λ (i : ℕ). reverse (days 1 i)) one ∙ days-last 1 (m - 1) (omega arith) (omega arith) ∙ ap (λ (i : ℕ). (m - 1) ∷ reverse (days 1 i)) two) t e
+
+    pub previous-found : 1 < m → trades (m - 1) ≡ true → previousTradingDay trades m ≡ Day (m - 1)
+    previous-found h e = previous-day h true e
+
+    pub previous-passed : 1 < m → trades (m - 1) ≡ false → previousTradingDay trades m ≡ previousTradingDay trades (m - 1)
+    previous-passed h e = previous-day h false e
+
+-- What holds of no day, and of each of the days, holds of what the search finds.
+find-by : (trades : ℕ → Bool) (P : OptionalDay → Type 0) (k a : ℕ) → P None → ((m : ℕ) → a ≤ m → m < a + k → P (Day m)) → P (find trades (daysFrom a k))
+unfolding daysFrom find
+find-by trades P zero a z h = z
+find-by trades P (suc k) a z h = by-test (trades a) (find-by trades P k (suc a) z (λ m l u. h m (omega arith) (omega arith)))
+  where
+    by-test : (t : Bool) → P (find trades (daysFrom (suc a) k)) → P (found t a (find trades (daysFrom (suc a) k)))
+    by-test true later = h a (omega arith) (omega arith)
+    by-test false later = later
+
+-- The answers are days of years 1 to 9999.
+pub next-in-years : (trades : ℕ → Bool) (n : ℕ) → InYears (nextTradingDay trades lastDay n)
+next-in-years trades n = find-by trades InYears (suc lastDay - suc n) (suc n) tt (λ m l u. (omega arith, omega arith))
+
+pub previous-in-years : (trades : ℕ → Bool) (n : ℕ) → 1 ≤ n → n ≤ lastDay → InYears (previousTradingDay trades n)
+previous-in-years trades n o h =
+    subst InYears
+    (sym (ap (find trades) (days-mirror 1 (pred n) n (omega arith) o (omega arith)) ∙ find-map trades (λ i. n - i) (days (n - pred n) (n - 1))))
+    (find-by (λ i. trades (n - i)) (λ r. InYears (mapDay (λ i. n - i) r)) (suc (n - 1) - (n - pred n)) (n - pred n) tt (λ m l u. (omega arith, omega arith)))

@@ -1,0 +1,12 @@
+-- `trading_calendar::neighbours::tc_next_trading_day` meets its contract: the answer of the call, as a struct.
+use mathlib.Core.Path.{ap, _∙_}
+use borrow.Author.Needs.{needs}
+use Rattle.trading_calendar.specs.Answers.{tradingDayAnswer}
+use Rattle.trading_calendar.proofs.neighbours.tc_next_trading_day.Statement.{statement}
+use Rattle.trading_calendar.proofs.neighbours.tc_next_trading_day.Tie as tie
+
+returns : tie.Need-returns
+returns c = c .trading-day-answer .ensures ∙ ap tradingDayAnswer (c .before .next-trading-day .ensures)
+
+pub tc-next-trading-day-spec : {M : Type 1} → statement M
+tc-next-trading-day-spec = tie.close (tie.spec (search needs) (search needs) returns)
