@@ -5,38 +5,40 @@ use mathlib.Core.Path.{_≡_, refl}
 use mathlib.Core.Bool.{Bool, true, false, _&&_}
 use mathlib.Core.Logic.{_⊎_, inl, inr, ⊎-elim}
 use mathlib.Core.List.{List, [], _∷_, map}
-use lib.Dec.{leb}
+use lib.Dec.{ltb}
 use native.Mathlib.Omega.{arith}
-use borrow.Author.Tests.{leb-true}
+use borrow.Author.Tests.{ltb-true}
 use Rattle.gregorian.proofs.Tests.{and-left, and-right}
 use Rattle.ranges.specs.Ranges.{daysFrom}
 use Rattle.ranges.specs.Agreement.{ShortRuns}
 use Rattle.ranges.proofs.Lists.{test, order}
 
--- Day after day, whether it trades: no run is longer than ten, with the c days before counted in.
-unfoldable pub runsAreShort : ℕ → List Bool → Bool
-runsAreShort c [] = true
-runsAreShort c (true ∷ l) = runsAreShort 0 l
-runsAreShort c (false ∷ l) = let rest = runsAreShort (suc c) l in leb c 9 && rest
+-- Day after day, whether it trades: no run of those that do not is longer than `most`, with the c days before counted in.
+unfoldable pub runsUpTo : ℕ → ℕ → List Bool → Bool
+runsUpTo most c [] = true
+runsUpTo most c (true ∷ l) = runsUpTo most 0 l
+runsUpTo most c (false ∷ l) = let rest = runsUpTo most (suc c) l in ltb c most && rest
 
 module _ (trades : ℕ → Bool) where
   -- the day after c non-trading days
-  past-day : (c : ℕ) (t : Bool) (l : List Bool) → runsAreShort c (t ∷ l) ≡ true → ((t ≡ true) × (runsAreShort 0 l ≡ true)) ⊎ ((t ≡ false) × (c ≤ 9) × (runsAreShort (suc c) l ≡ true))
-  unfolding runsAreShort
+  past-day : (c : ℕ) (t : Bool) (l : List Bool) → runsUpTo 10 c (t ∷ l) ≡ true → ((t ≡ true) × (runsUpTo 10 0 l ≡ true)) ⊎ ((t ≡ false) × (c < 10) × (runsUpTo 10 (suc c) l ≡ true))
+  unfolding runsUpTo
   past-day c true l e = inl (refl, e)
-  past-day c false l e = inr (refl, leb-true c 9 (and-left (leb c 9) _ e), and-right (leb c 9) _ e)
+  past-day c false l e = inr (refl, ltb-true c 10 (and-left (ltb c 10) _ e), and-right (ltb c 10) _ e)
 
   -- Eleven days from x on have a day that trades, where the test from a on counts c days in.
-  window : (k c a x : ℕ) → runsAreShort c (map trades (daysFrom a k)) ≡ true → c ≤ 10 → a ≤ x + c → x + 10 < a + k → (m : ℕ) × (x ≤ m) × (m ≤ x + 10) × (trades m ≡ true)
+  window : (k c a x : ℕ) → runsUpTo 10 c (map trades (daysFrom a k)) ≡ true → c ≤ 10 → a ≤ x + c → x + 10 < a + k → (m : ℕ) × (x ≤ m) × (m ≤ x + 10) × (trades m ≡ true)
   unfolding daysFrom
   window zero c a x e h p q = absurd (omega arith)
   window (suc k) c a x e h p q =
       ⊎-elim
-      (λ (w : (trades a ≡ true) × (runsAreShort 0 (map trades (daysFrom (suc a) k)) ≡ true)).
+      (λ (w : (trades a ≡ true) × (runsUpTo 10 0 (map trades (daysFrom (suc a) k)) ≡ true)).
       ⊎-elim (λ (l : x ≤ a). (a, l, omega arith, w .0)) (λ (l : a < x). window k 0 (suc a) x (w .1) (omega arith) (omega arith) (omega arith)) (order x a))
-      (λ (w : (trades a ≡ false) × (c ≤ 9) × (runsAreShort (suc c) (map trades (daysFrom (suc a) k)) ≡ true)).
+      (λ (w : (trades a ≡ false) × (c < 10) × (runsUpTo 10 (suc c) (map trades (daysFrom (suc a) k)) ≡ true)).
       window k (suc c) (suc a) x (w .2) (omega (arith, w .1)) (omega arith) (omega arith))
       (past-day c (trades a) (map trades (daysFrom (suc a) k)) e)
 
-  pub short-runs : (a k high : ℕ) → runsAreShort 0 (map trades (daysFrom a k)) ≡ true → high < a + k → ShortRuns trades a high
-  short-runs a k high e h n l u = window k 0 a n e (omega arith) (omega arith) (omega arith)
+  pub short-runs : (a k high : ℕ) → runsUpTo 10 0 (map trades (daysFrom a k)) ≡ true → high < a + k → ShortRuns trades a high
+  short-runs a k high e h n l u =
+      let w = window k 0 a n e (omega arith) (omega arith) (omega arith) in
+      (w .0, w .1, omega (arith, w .2), w .3)

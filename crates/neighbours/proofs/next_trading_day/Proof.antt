@@ -31,7 +31,7 @@ returns c =
     let s = c .before .before .before in
     sym
     (s .loop .inv .2
-    ∙ next-found (isTradingDay (s .before .args .market)) lastDay (s .loop .next) (c .before .before .loop-test .taken)
+    ∙ next-found (isTradingDay (s .before .args .market)) lastDay (s .loop .next) (omega arith)
     (sym (c .before .is-trading-day .ensures) ∙ c .if1 .taken))
 
 loop-again : tie.Need-loop-again Inv-loop μ-loop
@@ -40,7 +40,7 @@ loop-again c =
       omega arith,
       omega arith,
       s .loop .inv .2
-          ∙ next-passed (isTradingDay (s .before .args .market)) lastDay (s .loop .next) (c .before .before .loop-test .taken)
+          ∙ next-passed (isTradingDay (s .before .args .market)) lastDay (s .loop .next) (omega arith)
           (sym (c .before .is-trading-day .ensures) ∙ c .if1 .left),
     )
 
@@ -48,7 +48,7 @@ returns-2 : tie.Need-returns-2 Inv-loop μ-loop
 returns-2 c =
     sym
     (c .before .loop .inv .2
-    ∙ next-none (isTradingDay (c .before .before .args .market)) lastDay (c .before .loop .next) (c .loop-test .left))
+    ∙ next-none (isTradingDay (c .before .before .args .market)) lastDay (c .before .loop .next) (omega arith))
 
 pub next-trading-day-spec : {M : Type 1} → statement M
 next-trading-day-spec =

@@ -29,7 +29,7 @@ returns c =
     let s = c .before .before .before in
     sym
     (s .loop .inv .2
-    ∙ previous-found (isTradingDay (s .before .args .market)) (s .loop .previous) (c .before .before .loop-test .taken)
+    ∙ previous-found (isTradingDay (s .before .args .market)) (s .loop .previous) (omega arith)
     (sym (c .before .is-trading-day .ensures) ∙ c .if1 .taken))
 
 loop-again : tie.Need-loop-again Inv-loop μ-loop
@@ -38,7 +38,7 @@ loop-again c =
       omega arith,
       omega arith,
       s .loop .inv .2
-          ∙ previous-passed (isTradingDay (s .before .args .market)) (s .loop .previous) (c .before .before .loop-test .taken)
+          ∙ previous-passed (isTradingDay (s .before .args .market)) (s .loop .previous) (omega arith)
           (sym (c .before .is-trading-day .ensures) ∙ c .if1 .left),
     )
 
@@ -46,7 +46,7 @@ returns-2 : tie.Need-returns-2 Inv-loop μ-loop
 returns-2 c =
     sym
     (c .before .loop .inv .2
-    ∙ previous-none (isTradingDay (c .before .before .args .market)) (c .before .loop .previous) (c .loop-test .left))
+    ∙ previous-none (isTradingDay (c .before .before .args .market)) (c .before .loop .previous) (omega arith))
 
 pub previous-trading-day-spec : {M : Type 1} → statement M
 previous-trading-day-spec =
