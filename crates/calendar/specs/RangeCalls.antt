@@ -1,7 +1,7 @@
 -- The calls of src/calendar.rs about ranges of days, on numbers: docs/SCOPE.md [next], [previous], [month-list], [count], [errors].
 -- Assumes nothing.
 use Prim.Native.Nat.{ℕ, _-_}
-use mathlib.Core.Bool.{Bool, cond, not, _&&_, _||_}
+use mathlib.Core.Bool.{cond, not, _&&_, _||_}
 use mathlib.Core.List.{List, _++_, map}
 use lib.Dec.{ltb, leb}
 use lib.ListN.{length, drop}
@@ -12,7 +12,6 @@ use Rattle.utils.specs.declared.OptionalDay.the-variants.{Day, None}
 use Rattle.markets.specs.Markets.{isTradingDay}
 use Rattle.ranges.specs.Ranges.{tradingDays, nextTradingDay, previousTradingDay, countTradingDays}
 use Rattle.error.specs.declared.CountResult.{CountResult}
-use Rattle.error.specs.declared.CalendarError.{CalendarError}
 use Rattle.error.specs.declared.CalendarError.the-variants.{UnknownMarket, DateOutOfRange, InvalidDateCalculation, NoTradingDayFound, BufferTooSmall}
 use Rattle.calendar.specs.declared.TradingDay.{TradingDay}
 use Rattle.calendar.specs.declared.TradingDayResult.{TradingDayResult}

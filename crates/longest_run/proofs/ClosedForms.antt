@@ -14,7 +14,7 @@ use Rattle.utils.specs.Weekday.{nthWeekdayOfMonth, targetDay}
 use Rattle.utils.proofs.WeekdayLaws.{nth-early}
 use Rattle.days.specs.Requires.{everyYearHas}
 use Rattle.days.proofs.DayLaws.{every-year-date}
-use Rattle.japan.specs.Japan.{getJapanHolidays, applyGoldenWeekRules, addWithSubstitute, addDayWithSubstitute}
+use Rattle.japan.specs.Japan.{getJapanHolidays}
 use Rattle.markets.specs.Us.{getUsHolidays}
 use Rattle.markets.specs.Uk.{getUkHolidays}
 use Rattle.markets.specs.Canada.{getCanadaHolidays}

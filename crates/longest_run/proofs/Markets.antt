@@ -3,7 +3,6 @@
 use Prim.Native.Nat.{ℕ, suc, _+_, _-_, _≤_}
 use mathlib.Core.Path.{_≡_, refl, ap, _∙_, subst}
 use mathlib.Core.Bool.{true}
-use mathlib.Core.List.{List}
 use lib.Dec.{lit≤}
 use native.Mathlib.Omega.{arith}
 use Rattle.gregorian.specs.Calendar.{leap, leapDay, yearLength, monthLength, total, isDate, dayNumber, lastDay, weekdayOf}

@@ -5,7 +5,7 @@ use mathlib.Core.Path.{_≡_, refl, sym, ap, ap₂, _∙_}
 use mathlib.Core.Bool.{Bool, not, _&&_}
 use mathlib.Core.List.{List, [], _∷_, _++_, map, map-append}
 use native.Mathlib.Omega.{arith}
-use Rattle.gregorian.specs.Calendar.{total, yearLength, lastYear, dateOf, Within}
+use Rattle.gregorian.specs.Calendar.{total, yearLength, lastYear, dateOf}
 use Rattle.gregorian.proofs.Total.{total-next, total-mono}
 use Rattle.gregorian.proofs.Formulas.{year-part}
 use Rattle.days.specs.Days.{contains}

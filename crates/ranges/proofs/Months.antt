@@ -7,7 +7,7 @@ use mathlib.Core.List.{List, [], _∷_, _++_, append-nil}
 use lib.Dec.{leb}
 use native.Mathlib.Omega.{arith}
 use borrow.Author.Tests.{le-leb, lt-leb}
-use Rattle.ranges.specs.Ranges.{daysFrom, days, keep, select, tradingDays, DateRange, joined, limitTo}
+use Rattle.ranges.specs.Ranges.{daysFrom, keep, select, tradingDays, DateRange, joined, limitTo}
 use Rattle.ranges.specs.Agreement.{Tile}
 use Rattle.ranges.proofs.Lists.{days-none, select-none, select-append, trading-split}
 

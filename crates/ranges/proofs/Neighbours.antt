@@ -1,9 +1,9 @@
 -- The laws of the next and the previous trading day: a day of the search, for the loops, and where the answer lies.
 -- Assumes nothing.
 use Prim.Native.Nat.{ℕ, zero, suc, pred, _+_, _-_, _≤_, _<_}
-use mathlib.Core.Path.{_≡_, refl, sym, ap, _∙_, subst}
+use mathlib.Core.Path.{_≡_, sym, ap, _∙_, subst}
 use mathlib.Core.Bool.{Bool, true, false}
-use mathlib.Core.List.{List, [], _∷_, reverse}
+use mathlib.Core.List.{List, _∷_, reverse}
 use native.Mathlib.Omega.{arith}
 use Rattle.gregorian.specs.Calendar.{lastDay}
 use Rattle.utils.specs.declared.OptionalDay.{OptionalDay}

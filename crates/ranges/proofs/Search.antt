@@ -1,16 +1,16 @@
 -- The search for a trading day: what it finds, and where it finds none.
 -- Assumes nothing.
 use Prim.Native.Nat.{ℕ, zero, suc, _+_, _-_, _≤_, _<_}
-use mathlib.Core.Path.{_≡_, refl, sym, ap, _∙_}
+use mathlib.Core.Path.{_≡_, refl, ap, _∙_}
 use mathlib.Core.Bool.{Bool, true, false}
-use mathlib.Core.Logic.{_⊎_, inl, inr, ⊎-elim}
+use mathlib.Core.Logic.{_⊎_, ⊎-elim}
 use mathlib.Core.List.{List, [], _∷_, map}
 use native.Mathlib.Omega.{arith}
 use Rattle.utils.specs.declared.OptionalDay.{OptionalDay}
 use Rattle.utils.specs.declared.OptionalDay.the-variants.{Day, None}
 use Rattle.utils.specs.Weekday.{mapDay}
-use Rattle.ranges.specs.Ranges.{daysFrom, days, found, find, nextTradingDay}
-use Rattle.ranges.specs.Agreement.{NeighbourCall, NextCall}
+use Rattle.ranges.specs.Ranges.{days, found, find}
+use Rattle.ranges.specs.Agreement.{NextCall}
 use Rattle.ranges.proofs.Lists.{test, order, days-next}
 
 module _ (trades : ℕ → Bool) where

@@ -2,17 +2,15 @@
 -- Assumes nothing.
 use Prim.Native.Nat.{ℕ, zero, suc, pred, _+_, _-_, _≤_, _<_}
 use mathlib.Core.Path.{_≡_, sym, ap, ap₂, _∙_, subst, subst₂}
-use mathlib.Core.Bool.{Bool, true, false}
-use mathlib.Core.Logic.{_⊎_, inl, inr, ⊎-elim}
+use mathlib.Core.Bool.{Bool, true}
+use mathlib.Core.Logic.{_⊎_, ⊎-elim}
 use mathlib.Core.List.{List, [], _∷_, map, reverse}
 use lib.Dec.{leb}
 use native.Mathlib.Omega.{arith}
 use borrow.Author.Tests.{leb-true, le-leb, lt-leb}
-use Rattle.utils.specs.declared.OptionalDay.{OptionalDay}
-use Rattle.utils.specs.declared.OptionalDay.the-variants.{Day}
 use Rattle.utils.specs.Weekday.{mapDay}
-use Rattle.ranges.specs.Ranges.{days, find, tradingDays, nextTradingDay, previousTradingDay}
-use Rattle.ranges.specs.Agreement.{Traversal, NeighbourCall, NextCall, PreviousCall, ShortRuns}
+use Rattle.ranges.specs.Ranges.{days, find, tradingDays, nextTradingDay}
+use Rattle.ranges.specs.Agreement.{Traversal, NextCall, PreviousCall, ShortRuns}
 use Rattle.ranges.proofs.Lists.{order, all-fail, first-passes, days-mirror, trading-mirror}
 use Rattle.ranges.proofs.Search.{find-map, next-call}
 

@@ -1,7 +1,6 @@
 -- The trading days of a date range and the ways to them: docs/SCOPE.md [next], [previous], [count], [agreement]. A day is its day
 -- number; `trades` is any rule of which days trade. Assumes nothing.
-use Prim.Native.Nat.{ℕ, zero, suc, pred, _+_, _-_, _≤_}
-use mathlib.Core.Path.{_≡_}
+use Prim.Native.Nat.{ℕ, zero, suc, pred, _+_, _-_}
 use mathlib.Core.Bool.{Bool, true, false, _&&_}
 use mathlib.Core.List.{List, [], _∷_, _++_, reverse}
 use lib.Dec.{leb}

@@ -1,5 +1,5 @@
 -- `calendar::trading_day` meets its contract: each field.
-use mathlib.Core.Path.{_≡_, ap, _∙_}
+use mathlib.Core.Path.{ap, _∙_}
 use mathlib.Core.Bool.{not, _||_}
 use borrow.Author.Needs.{needs}
 use Rattle.gregorian.specs.declared.Date.{Date}

@@ -1,5 +1,5 @@
 -- `calendar::trading_day_result` meets its contract: both arms.
-use mathlib.Core.Path.{_≡_, ap, sym, _∙_, subst}
+use mathlib.Core.Path.{ap, sym, _∙_, subst}
 use borrow.Author.Needs.{needs}
 use Rattle.utils.specs.Weekday.{InYears}
 use Rattle.calendar.specs.declared.TradingDayResult.{TradingDayResult}

@@ -1,7 +1,6 @@
 -- `neighbours::next_trading_day` meets its contract: each turn of the loop is one day of the search.
-use Prim.Native.Nat.{ℕ, _+_, _-_, _≤_, _<_}
+use Prim.Native.Nat.{_-_, _≤_}
 use mathlib.Core.Path.{_≡_, refl, sym, _∙_}
-use mathlib.Core.Bool.{Bool}
 use native.Mathlib.Omega.{arith}
 use borrow.Author.Needs.{needs}
 use Rattle.gregorian.specs.Calendar.{lastDay}

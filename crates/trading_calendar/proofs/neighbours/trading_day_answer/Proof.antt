@@ -1,6 +1,6 @@
 -- `trading_calendar::neighbours::trading_day_answer` meets its contract: both arms.
 use Prim.Native.Nat.{ℕ}
-use mathlib.Core.Path.{_≡_, ap, sym, _∙_}
+use mathlib.Core.Path.{ap, sym, _∙_}
 use borrow.Author.Needs.{needs}
 use Rattle.gregorian.specs.Calendar.{noDate}
 use Rattle.trading_calendar.specs.declared.neighbours.TradingDayAnswer.{TradingDayAnswer}
