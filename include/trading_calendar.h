@@ -46,7 +46,8 @@ typedef struct {
 } tc_bool_result;
 
 /* error is 0, date is the answer, distance the days from the date given to it, 1 or more [distance], and outside 1 if either date
- * is outside 2020 to 2030, else 0 [outside]; or error is a number of [errors], and every other field is 0 [reading-error-6]. */
+ * is outside 2020 to 2030, else 0 [outside]; or error is a number of [errors], and every other field is 0 [reading-nothing]
+ * [reading-error-6]. */
 typedef struct {
     uint32_t error;
     tc_date date;

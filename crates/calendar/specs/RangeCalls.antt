@@ -2,15 +2,15 @@
 -- Assumes nothing.
 use Prim.Native.Nat.{ℕ, _-_}
 use mathlib.Core.Bool.{cond, not, _&&_, _||_}
-use mathlib.Core.List.{List, _++_, map}
+use mathlib.Core.List.{List, _++_}
 use lib.Dec.{ltb, leb}
 use lib.ListN.{length, drop}
 use Rattle.gregorian.specs.declared.Date.{Date}
-use Rattle.gregorian.specs.Calendar.{monthLength, lastDay, isDate, date, dayNumber, dateOf}
+use Rattle.gregorian.specs.Calendar.{monthLength, firstDay, lastDay, isDate, date, dayNumber, dateOf}
 use Rattle.utils.specs.declared.OptionalDay.{OptionalDay}
 use Rattle.utils.specs.declared.OptionalDay.the-variants.{Day, None}
 use Rattle.markets.specs.Markets.{isTradingDay}
-use Rattle.ranges.specs.Ranges.{tradingDays, nextTradingDay, previousTradingDay, countTradingDays}
+use Rattle.ranges.specs.Ranges.{days, filter, nextTradingDay, previousTradingDay, countTradingDays}
 use Rattle.error.specs.declared.CountResult.{CountResult}
 use Rattle.error.specs.declared.CalendarError.the-variants.{UnknownMarket, DateOutOfRange, InvalidDateCalculation, NoTradingDayFound, BufferTooSmall}
 use Rattle.calendar.specs.declared.TradingDay.{TradingDay}
@@ -23,7 +23,7 @@ use Rattle.calendar.specs.Calls.{isSupported, tryDay, checkedDay}
 unfoldable pub distanceOf : ℕ → ℕ → ℕ
 distanceOf n m = cond (ltb n m) (m - n) (n - m)
 
--- What a call on day n, which is of that year, tells of its answer; [outside]: the mark is set if either is outside 2020 to 2030.
+-- The answer m to a call on day n of that year, with its distance and [outside]: the mark is set if either is outside 2020 to 2030.
 unfoldable pub tradingDay : ℕ → ℕ → ℕ → TradingDay
 tradingDay year n m =
     record { date = dateOf m; distance = distanceOf n m; outside = not (isSupported year) || not (isSupported (dateOf m .year)) }
@@ -33,33 +33,32 @@ unfoldable pub tradingDayResult : ℕ → ℕ → OptionalDay → TradingDayResu
 tradingDayResult year n (Day m) = TradingDayResult.Ok (tradingDay year n m)
 tradingDayResult year n None = TradingDayResult.Err NoTradingDayFound
 
+-- errors 8 and 5, and then the neighbour of the day
+abbrev pub neighbourResult : (ℕ → OptionalDay) → ℕ → ℕ → ℕ → ℕ → TradingDayResult
+neighbourResult neighbour market year month day =
+    tryDay (checkedDay market year month day) TradingDayResult.Err (λ n. tradingDayResult year n (neighbour n))
+
 -- next_trading_day
 abbrev pub nextTradingDayResult : ℕ → ℕ → ℕ → ℕ → TradingDayResult
-nextTradingDayResult market year month day =
-    tryDay (checkedDay market year month day) TradingDayResult.Err
-    (λ n. tradingDayResult year n (nextTradingDay (isTradingDay market) lastDay n))
+nextTradingDayResult market = neighbourResult (nextTradingDay (isTradingDay market) lastDay) market
 
 -- previous_trading_day
 abbrev pub previousTradingDayResult : ℕ → ℕ → ℕ → ℕ → TradingDayResult
-previousTradingDayResult market year month day =
-    tryDay (checkedDay market year month day) TradingDayResult.Err
-    (λ n. tradingDayResult year n (previousTradingDay (isTradingDay market) n))
+previousTradingDayResult market = neighbourResult (previousTradingDay (isTradingDay market) firstDay) market
 
 -- ---- the list of a month
 
--- [month-list]: the trading days of a month, each as its day of the month
+-- [month-list]: those days of the month, by their numbers in it, that trade
 unfoldable pub monthList : ℕ → ℕ → ℕ → List ℕ
-monthList market year month =
-    map (λ n. dateOf n .day)
-    (tradingDays (isTradingDay market) (dayNumber year month 1) (dayNumber year month (monthLength year month)))
+monthList market year month = filter (λ day. isTradingDay market (dayNumber year month day)) (days 1 (monthLength year month))
 
 -- [month-error-date]
 unfoldable pub monthErrorDate : ℕ → ℕ → Date
 monthErrorDate year month = cond (isDate year month 1) (date year month 1) (date 1970 1 1)
 
 -- how many bytes are written into the buffer; error 9 where they do not fit
-unfoldable pub lentResult : List ℕ → List ℕ → CountResult
-lentResult bytes buffer =
+unfoldable pub writtenResult : List ℕ → List ℕ → CountResult
+writtenResult bytes buffer =
     cond (ltb (length buffer) (length bytes)) (CountResult.Err (BufferTooSmall (length bytes))) (CountResult.Ok (length bytes))
 
 -- [error-writes-nothing]: what the buffer holds at the end. Without an error the bytes are at its start, and the rest stays.
@@ -73,7 +72,7 @@ tradingDaysInMonthResult market year month buffer =
     cond (ltb 4 market) (CountResult.Err UnknownMarket)
     (cond (not (isSupported year)) (CountResult.Err (DateOutOfRange (monthErrorDate year month)))
     (cond (not (leb 1 month && leb month 12)) (CountResult.Err InvalidDateCalculation)
-    (lentResult (monthList market year month) buffer)))
+    (writtenResult (monthList market year month) buffer)))
 
 abbrev pub tradingDaysInMonthBuffer : ℕ → ℕ → ℕ → List ℕ → List ℕ
 tradingDaysInMonthBuffer market year month buffer =

@@ -129,7 +129,7 @@ fn distance(n: u32, m: u32) -> u32
     if n < m { m - n } else { n - m }
 }
 
-// The answer m to a call on day n, which is of the year.
+// The answer m to a call on day n of that year.
 fn trading_day(year: u32, n: u32, m: u32) -> TradingDay
     requires { ⌜ (1 ≤ m) × (m ≤ lastDay) ⌝ }
     ensures { λ r. ⌜ r ≡ tradingDay year n m ⌝ }

@@ -18,7 +18,7 @@ errorNumber (BufferTooSmall needed) = 9
 errorNumber InvalidSession = 3
 errorNumber InvalidTime = 4
 
--- the date that is returned with an error; no date where nothing is
+-- the date that is returned with an error; no date where none is
 unfoldable pub errorDate : CalendarError → Date
 errorDate UnknownMarket = noDate
 errorDate InvalidDate = noDate
@@ -29,3 +29,15 @@ errorDate NoTradingDayFound = noDate
 errorDate (BufferTooSmall needed) = noDate
 errorDate InvalidSession = noDate
 errorDate InvalidTime = noDate
+
+-- the number of bytes that is returned with error 9; 0 with the others
+abbrev pub errorCount : CalendarError → ℕ
+errorCount (BufferTooSmall needed) = needed
+errorCount UnknownMarket = 0
+errorCount InvalidDate = 0
+errorCount TimeOutOfRange = 0
+errorCount (DateOutOfRange t) = 0
+errorCount InvalidDateCalculation = 0
+errorCount NoTradingDayFound = 0
+errorCount InvalidSession = 0
+errorCount InvalidTime = 0

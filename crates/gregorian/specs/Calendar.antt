@@ -36,9 +36,12 @@ total f (suc n) = total f n + f (suc n)
 unfoldable pub dayNumber : ℕ → ℕ → ℕ → ℕ
 dayNumber y m d = total yearLength (y - 1) + (total (monthLength y) (m - 1) + d)
 
--- the last year of the calls, and the day number of its last day
+-- the last year of the calls, and the day numbers of 0001-01-01 and of its last day
 abbrev pub lastYear : ℕ
 lastYear = 9999
+
+abbrev pub firstDay : ℕ
+firstDay = 1
 
 abbrev pub lastDay : ℕ
 lastDay = 3652059

@@ -7,7 +7,9 @@ ghost use Rattle.gregorian.specs.Calendar.{leap, monthLength, yearLength
 
 pub const LAST_YEAR: u32 = 9999;
 
-// The day number of 9999-12-31.
+// The day numbers of 0001-01-01 and 9999-12-31.
+pub const FIRST_DAY: u32 = 1;
+
 pub const LAST_DAY: u32 = 3652059;
 
 // The numbers of weekdays, 0 Monday to 6 Sunday; those that are asked for by name.

@@ -1,11 +1,11 @@
--- In 2019 to 2031 no run of non-trading days of a market is longer than ten, and so the ways to its trading days agree.
+-- No run of non-trading days of a market is longer than ten, and so the ways to its trading days agree.
 -- Assumes nothing.
 use Prim.Native.Nat.{ℕ, suc, _+_, _-_, _≤_}
 use mathlib.Core.Path.{_≡_, refl, ap, _∙_, subst}
 use mathlib.Core.Bool.{true}
 use lib.Dec.{lit≤}
 use native.Mathlib.Omega.{arith}
-use Rattle.gregorian.specs.Calendar.{leap, leapDay, yearLength, monthLength, total, isDate, dayNumber, lastDay, weekdayOf}
+use Rattle.gregorian.specs.Calendar.{leap, leapDay, yearLength, monthLength, total, isDate, dayNumber, firstDay, lastDay, weekdayOf}
 use Rattle.gregorian.proofs.Total.{Upto, upto}
 use Rattle.utils.specs.Weekday.{firstFrom, targetDay, lastUpTo, firstOfNext, lastWeekdayOfMonth}
 use Rattle.utils.specs.Easter.{moonDays, easter, calculateEaster, calculateGoodFriday, calculateEasterMonday}
@@ -18,36 +18,35 @@ use Rattle.ranges.specs.Ranges.{daysFrom}
 use Rattle.ranges.specs.Agreement.{ShortRuns}
 use Rattle.ranges.proofs.Theorem.{agree}
 use Rattle.ranges.proofs.Runs.{runsUpTo, short-runs}
-use Rattle.longest_run.specs.MarketAgreement.{MarketsAgree}
+use Rattle.longest_run.specs.MarketAgreement.{longestRun, MarketRuns, MarketsAgree}
 use Rattle.longest_run.proofs.ClosedForms.{closedForm}
 use Rattle.longest_run.proofs.Years.{tradingFlags, before, yearFlags, year-flags}
 
--- The test of a market: 2019 and 2031 are the years before and after those of the traversals.
+-- the test of a market
 abbrev Short : ℕ → Type 0
-Short market = runsUpTo 10 0 (yearFlags market 13 2019 (lit≤ tt) (lit≤ tt)) ≡ true
+Short market = runsUpTo longestRun 0 (yearFlags market 13 2019 (lit≤ tt) (lit≤ tt)) ≡ true
 
 all-short : Upto Short 5
 unfolding runsUpTo tradingFlags yearFlags closedForm daysFrom isWeekend contains insert insertIf insertDay matchWeekend leap leapDay yearLength monthLength total isDate dayNumber weekdayOf firstFrom targetDay lastUpTo firstOfNext lastWeekdayOfMonth moonDays easter calculateEaster calculateGoodFriday calculateEasterMonday substituteDay addWithSubstitute addDayWithSubstitute equinox applyGoldenWeekRules addBoxingDay boxingDay
 all-short = (((((tt, refl), refl), refl), refl), refl)
 
--- the first day of 2019, and the last of 2031
-abbrev low : ℕ
-low = 737060
+-- the first and the last days of 2019 to 2031, and of 2020 to 2030
+abbrev Bounds : Type 0
+Bounds =
+    (suc (before 2019) ≡ dayNumber 2019 1 1) × (before (2019 + 13) ≡ dayNumber 2031 12 31) × (dayNumber 2019 1 1 ≡ 737060)
+    × (dayNumber 2020 1 1 ≡ 737425) × (dayNumber 2030 12 31 ≡ 741442) × (dayNumber 2031 12 31 ≡ 741807)
 
-abbrev high : ℕ
-high = 741807
-
--- their numbers, and those of the first day of 2020 and the last of 2030
-bounds : (suc (before 2019) ≡ low) × (before (2019 + 13) ≡ high) × (dayNumber 2020 1 1 ≡ 737425) × (dayNumber 2030 12 31 ≡ 741442)
+bounds : Bounds
 unfolding total yearLength leapDay leap monthLength dayNumber
-bounds = (refl, refl, refl, refl)
+bounds = (refl, refl, refl, refl, refl, refl)
 
-market-runs : (market : ℕ) → market ≤ 4 → ShortRuns (isTradingDay market) low high
+pub market-runs : MarketRuns
 market-runs market h =
-    let all = ap (runsUpTo 10 0) (year-flags market 13 2019 (lit≤ tt) (lit≤ tt)) ∙ upto Short 5 all-short market (omega arith) in
-    subst (λ (a : ℕ). ShortRuns (isTradingDay market) a high) (bounds .0)
-    (short-runs (isTradingDay market) (suc (before 2019)) _ high all (omega (arith, bounds)))
+    let all = ap (runsUpTo longestRun 0) (year-flags market 13 2019 (lit≤ tt) (lit≤ tt)) ∙ upto Short 5 all-short market (omega arith) in
+    subst (λ (a : ℕ). ShortRuns (isTradingDay market) longestRun a (dayNumber 2031 12 31)) (bounds .0)
+    (short-runs (isTradingDay market) longestRun (suc (before 2019)) _ (dayNumber 2031 12 31) all (omega (arith, bounds)))
 
 pub markets-agree : MarketsAgree
 markets-agree market a b m l h u =
-    agree (isTradingDay market) lastDay low high a b (market-runs market m) (lit≤ tt) (lit≤ tt) (omega (arith, bounds, l)) h (omega (arith, bounds, u))
+    agree (isTradingDay market) longestRun firstDay lastDay (dayNumber 2019 1 1) (dayNumber 2031 12 31) a b (market-runs market m)
+    (omega (arith, bounds)) (omega (arith, bounds)) (omega (arith, bounds, l)) h (omega (arith, bounds, u))

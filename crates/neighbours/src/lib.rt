@@ -2,15 +2,13 @@
 // are those of docs/SCOPE.md.
 ghost use mathlib.Core.Path.{_≡_};
 ghost use Prim.Native.Nat.{_≤_};
-ghost use Rattle.gregorian.specs.Calendar.{lastDay};
+ghost use Rattle.gregorian.specs.Calendar.{firstDay, lastDay};
 ghost use Rattle.markets.specs.Markets.{isTradingDay};
 ghost use Rattle.ranges.specs.Ranges.{nextTradingDay, previousTradingDay};
+use gregorian::FIRST_DAY;
 use gregorian::LAST_DAY;
 use markets::is_trading_day;
 use utils::OptionalDay;
-
-// 0001-01-01
-const FIRST_DAY: u32 = 1;
 
 // [next]: none if no day after n trades, up to the last of the years.
 pub fn next_trading_day(market: u32, n: u32) -> OptionalDay
@@ -30,7 +28,7 @@ pub fn next_trading_day(market: u32, n: u32) -> OptionalDay
 // [previous]: none if no day before n trades, down to the first of the years.
 pub fn previous_trading_day(market: u32, n: u32) -> OptionalDay
     requires { ⌜ (1 ≤ n) × (n ≤ lastDay) ⌝ }
-    ensures { λ r. ⌜ r ≡ previousTradingDay (isTradingDay market) n ⌝ }
+    ensures { λ r. ⌜ r ≡ previousTradingDay (isTradingDay market) firstDay n ⌝ }
 {
     let mut previous = n;
     while FIRST_DAY < previous {

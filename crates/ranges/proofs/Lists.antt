@@ -1,4 +1,4 @@
--- Lists of days: joining them, selecting from them, and their mirror image.
+-- Lists of days: joining them, filtering from them, and their mirror image.
 -- Assumes nothing.
 use Prim.Native.Nat.{ℕ, zero, suc, _+_, _-_, _≤_, _<_}
 use mathlib.Core.Path.{_≡_, refl, sym, ap, ap₂, _∙_}
@@ -6,10 +6,11 @@ use mathlib.Core.Bool.{Bool, true, false}
 use mathlib.Core.Logic.{_⊎_, inl, inr, ⊎-elim}
 use mathlib.Core.List.{List, [], _∷_, _++_, append-nil, map, reverse, reverse-append, reverse-cons}
 use lib.Dec.{leb}
+use lib.ListN.{length}
 use native.Mathlib.Nat.{zero-add, suc-add, add-zero, add-suc}
 use native.Mathlib.Omega.{arith}
 use borrow.Author.Tests.{leb-true, leb-false}
-use Rattle.ranges.specs.Ranges.{daysFrom, days, keep, select, tradingDays}
+use Rattle.ranges.specs.Ranges.{daysFrom, days, keep, filter, tradingDays}
 
 -- ---- cases that keep what they rest on
 
@@ -19,6 +20,9 @@ test false = inr refl
 
 pub order : (m n : ℕ) → (m ≤ n) ⊎ (n < m)
 order m n = ⊎-elim (λ e. inl (leb-true m n e)) (λ e. inr (leb-false m n e)) (test (leb m n))
+
+pub clash : (t : Bool) → t ≡ true → t ≡ false → ⊥
+clash t p q = let z : _≡_ {A = ℕ} 0 1 = cc in omega arith
 
 -- ---- days
 
@@ -46,6 +50,15 @@ days-none a b h = ap (daysFrom a) (omega arith) ∙ from-none a
 
 pub days-next : (a b : ℕ) → a ≤ b → days a b ≡ a ∷ days (suc a) b
 days-next a b h = ap (daysFrom a) (omega arith) ∙ from-next a (suc b - suc a)
+
+from-length : (k a : ℕ) → length (daysFrom a k) ≡ k
+unfolding daysFrom
+from-length zero a = refl
+from-length (suc k) a = ap suc (from-length k (suc a))
+
+-- The days strictly between two days are one fewer than the days from the one to the other.
+pub between-length : (earlier later : ℕ) → earlier < later → suc (length (days (suc earlier) (later - 1))) ≡ later - earlier
+between-length earlier later h = omega (arith, from-length (suc (later - 1) - suc earlier) (suc earlier))
 
 -- The mirror image: the days backward are c less the days forward.
 from-last : (k a : ℕ) → daysFrom a (suc k) ≡ daysFrom a k ++ ((a + k) ∷ [])
@@ -86,51 +99,51 @@ from-mirror (suc k) a c h =
 pub days-mirror : (a b c : ℕ) → a ≤ suc b → a ≤ c → b ≤ c → reverse (days a b) ≡ map (λ i. c - i) (days (c - b) (c - a))
 days-mirror a b c h l k = from-mirror (suc b - a) a c (omega arith) ∙ ap₂ (λ (x y : ℕ). map (λ i. c - i) (daysFrom x y)) (omega arith) (omega arith)
 
--- ---- selecting
+-- ---- filtering
 
 module _ (p : ℕ → Bool) where
-  pub select-none : select p [] ≡ []
-  unfolding select
-  select-none = refl
+  pub filter-none : filter p [] ≡ []
+  unfolding filter
+  filter-none = refl
 
-  pub select-next : (n : ℕ) (l : List ℕ) → select p (n ∷ l) ≡ keep (p n) n (select p l)
-  unfolding select
-  select-next n l = refl
+  pub filter-next : (n : ℕ) (l : List ℕ) → filter p (n ∷ l) ≡ keep (p n) n (filter p l)
+  unfolding filter
+  filter-next n l = refl
 
   keep-append : (t : Bool) (n : ℕ) (x y : List ℕ) → keep t n (x ++ y) ≡ keep t n x ++ y
   keep-append true n x y = refl
   keep-append false n x y = refl
 
-  pub select-append : (x y : List ℕ) → select p (x ++ y) ≡ select p x ++ select p y
-  unfolding select
-  select-append [] y = refl
-  select-append (n ∷ x) y = ap (keep (p n) n) (select-append x y) ∙ keep-append (p n) n (select p x) (select p y)
+  pub filter-append : (x y : List ℕ) → filter p (x ++ y) ≡ filter p x ++ filter p y
+  unfolding filter
+  filter-append [] y = refl
+  filter-append (n ∷ x) y = ap (keep (p n) n) (filter-append x y) ∙ keep-append (p n) n (filter p x) (filter p y)
 
-  select-reverse : (l : List ℕ) → select p (reverse l) ≡ reverse (select p l)
-  unfolding select
-  select-reverse [] = refl
-  select-reverse (n ∷ l) =
-      ap (select p) (reverse-cons n l)
-      ∙ select-append (reverse l) (n ∷ [])
-      ∙ ap (λ (r : List ℕ). r ++ keep (p n) n []) (select-reverse l)
+  filter-reverse : (l : List ℕ) → filter p (reverse l) ≡ reverse (filter p l)
+  unfolding filter
+  filter-reverse [] = refl
+  filter-reverse (n ∷ l) =
+      ap (filter p) (reverse-cons n l)
+      ∙ filter-append (reverse l) (n ∷ [])
+      ∙ ap (λ (r : List ℕ). r ++ keep (p n) n []) (filter-reverse l)
       ∙ last (p n)
     where
-      last : (t : Bool) → reverse (select p l) ++ keep t n [] ≡ reverse (keep t n (select p l))
-      last true = sym (reverse-cons n (select p l))
-      last false = append-nil (reverse (select p l))
+      last : (t : Bool) → reverse (filter p l) ++ keep t n [] ≡ reverse (keep t n (filter p l))
+      last true = sym (reverse-cons n (filter p l))
+      last false = append-nil (reverse (filter p l))
 
-  select-map : (f : ℕ → ℕ) (l : List ℕ) → select p (map f l) ≡ map f (select (λ n. p (f n)) l)
-  unfolding select
-  select-map f [] = refl
-  select-map f (n ∷ l) = ap (keep (p (f n)) (f n)) (select-map f l) ∙ keep-map (p (f n))
+  pub filter-map : (f : ℕ → ℕ) (l : List ℕ) → filter p (map f l) ≡ map f (filter (λ n. p (f n)) l)
+  unfolding filter
+  filter-map f [] = refl
+  filter-map f (n ∷ l) = ap (keep (p (f n)) (f n)) (filter-map f l) ∙ keep-map (p (f n))
     where
-      keep-map : (t : Bool) → keep t (f n) (map f (select (λ n. p (f n)) l)) ≡ map f (keep t n (select (λ n. p (f n)) l))
+      keep-map : (t : Bool) → keep t (f n) (map f (filter (λ n. p (f n)) l)) ≡ map f (keep t n (filter (λ n. p (f n)) l))
       keep-map true = refl
       keep-map false = refl
 
   -- none of the days passes
-  from-fail : (k a : ℕ) → ((i : ℕ) → a ≤ i → i < a + k → p i ≡ false) → select p (daysFrom a k) ≡ []
-  unfolding daysFrom select
+  from-fail : (k a : ℕ) → ((i : ℕ) → a ≤ i → i < a + k → p i ≡ false) → filter p (daysFrom a k) ≡ []
+  unfolding daysFrom filter
   from-fail zero a h = refl
   from-fail (suc k) a h = rw (h a (omega arith) (omega arith)) (from-fail k (suc a) (λ i x y. h i (omega arith) (omega arith)))
 
@@ -138,21 +151,21 @@ module _ (p : ℕ → Bool) where
   all-fail a b h = from-fail (suc b - a) a (λ i x y. h i x (omega arith))
 
   pub trading-split : (a c b : ℕ) → a ≤ suc c → c ≤ b → tradingDays p a b ≡ tradingDays p a c ++ tradingDays p (suc c) b
-  trading-split a c b h k = ap (select p) (days-split a c b h k) ∙ select-append (days a c) (days (suc c) b)
+  trading-split a c b h k = ap (filter p) (days-split a c b h k) ∙ filter-append (days a c) (days (suc c) b)
 
   -- m is the first from a on that passes
   pub first-passes : (a m b : ℕ) → a ≤ m → m ≤ b → p m ≡ true → ((i : ℕ) → a ≤ i → i < m → p i ≡ false)
       → tradingDays p a b ≡ m ∷ tradingDays p (suc m) b
   first-passes a m b h k e c =
-      ap (λ (x : ℕ). select p (daysFrom a x)) (omega arith)
-      ∙ ap (select p) (from-split (m - a) (suc b - m) a)
-      ∙ select-append (daysFrom a (m - a)) (daysFrom (a + (m - a)) (suc b - m))
-      ∙ ap (λ (l : List ℕ). l ++ select p (daysFrom (a + (m - a)) (suc b - m))) (from-fail (m - a) a (λ i x y. c i x (omega arith)))
-      ∙ ap (λ (x : ℕ). select p (daysFrom x (suc b - m))) (omega arith)
-      ∙ ap (select p) (days-next m b k)
-      ∙ select-next m (days (suc m) b)
+      ap (λ (x : ℕ). filter p (daysFrom a x)) (omega arith)
+      ∙ ap (filter p) (from-split (m - a) (suc b - m) a)
+      ∙ filter-append (daysFrom a (m - a)) (daysFrom (a + (m - a)) (suc b - m))
+      ∙ ap (λ (l : List ℕ). l ++ filter p (daysFrom (a + (m - a)) (suc b - m))) (from-fail (m - a) a (λ i x y. c i x (omega arith)))
+      ∙ ap (λ (x : ℕ). filter p (daysFrom x (suc b - m))) (omega arith)
+      ∙ ap (filter p) (days-next m b k)
+      ∙ filter-next m (days (suc m) b)
       ∙ ap (λ (t : Bool). keep t m (tradingDays p (suc m) b)) e
 
   pub trading-mirror : (a b c : ℕ) → a ≤ suc b → a ≤ c → b ≤ c → reverse (tradingDays p a b) ≡ map (λ i. c - i) (tradingDays (λ i. p (c - i)) (c - b) (c - a))
   trading-mirror a b c h l k =
-      sym (select-reverse (days a b)) ∙ ap (select p) (days-mirror a b c h l k) ∙ select-map (λ i. c - i) (days (c - b) (c - a))
+      sym (filter-reverse (days a b)) ∙ ap (filter p) (days-mirror a b c h l k) ∙ filter-map (λ i. c - i) (days (c - b) (c - a))

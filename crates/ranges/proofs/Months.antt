@@ -1,15 +1,15 @@
 -- Ranges that tile, and a list limited to a range.
 -- Assumes nothing.
-use Prim.Native.Nat.{ℕ, zero, suc, pred, _+_, _-_, _≤_, _<_}
+use Prim.Native.Nat.{ℕ, zero, suc, _+_, _-_, _≤_, _<_}
 use mathlib.Core.Path.{_≡_, refl, sym, ap, _∙_}
 use mathlib.Core.Bool.{Bool, true, false, _&&_}
 use mathlib.Core.List.{List, [], _∷_, _++_, append-nil}
 use lib.Dec.{leb}
 use native.Mathlib.Omega.{arith}
 use borrow.Author.Tests.{le-leb, lt-leb}
-use Rattle.ranges.specs.Ranges.{daysFrom, keep, select, tradingDays, DateRange, joined, limitTo}
-use Rattle.ranges.specs.Agreement.{Tile}
-use Rattle.ranges.proofs.Lists.{days-none, select-none, select-append, trading-split}
+use Rattle.ranges.specs.Ranges.{daysFrom, keep, filter, tradingDays, DateRange, joined, limitTo}
+use Rattle.ranges.specs.Agreement.{Tile, listOf}
+use Rattle.ranges.proofs.Lists.{days-none, filter-none, filter-append, trading-split}
 
 -- all of a list, or nothing
 abbrev whole : Bool → List ℕ → List ℕ
@@ -17,25 +17,25 @@ whole true l = l
 whole false l = []
 
 -- A test that answers t all along the days keeps all of them, or none.
-select-alike : (p q : ℕ → Bool) (t : Bool) (k a : ℕ) → ((i : ℕ) → a ≤ i → i < a + k → p i ≡ t) → select p (select q (daysFrom a k)) ≡ whole t (select q (daysFrom a k))
-unfolding daysFrom select
-select-alike p q true zero a h = refl
-select-alike p q false zero a h = refl
-select-alike p q t (suc k) a h =
-    kept t (q a) (select q (daysFrom (suc a) k)) (h a (omega arith) (omega arith)) (select-alike p q t k (suc a) (λ i x y. h i (omega arith) (omega arith)))
+filter-alike : (p q : ℕ → Bool) (t : Bool) (k a : ℕ) → ((i : ℕ) → a ≤ i → i < a + k → p i ≡ t) → filter p (filter q (daysFrom a k)) ≡ whole t (filter q (daysFrom a k))
+unfolding daysFrom filter
+filter-alike p q true zero a h = refl
+filter-alike p q false zero a h = refl
+filter-alike p q t (suc k) a h =
+    kept t (q a) (filter q (daysFrom (suc a) k)) (h a (omega arith) (omega arith)) (filter-alike p q t k (suc a) (λ i x y. h i (omega arith) (omega arith)))
   where
-    kept : (t u : Bool) (l : List ℕ) → p a ≡ t → select p l ≡ whole t l → select p (keep u a l) ≡ whole t (keep u a l)
-    kept true true l e f = ap (λ (v : Bool). keep v a (select p l)) e ∙ ap (λ (r : List ℕ). a ∷ r) f
-    kept false true l e f = ap (λ (v : Bool). keep v a (select p l)) e ∙ f
+    kept : (t u : Bool) (l : List ℕ) → p a ≡ t → filter p l ≡ whole t l → filter p (keep u a l) ≡ whole t (keep u a l)
+    kept true true l e f = ap (λ (v : Bool). keep v a (filter p l)) e ∙ ap (λ (r : List ℕ). a ∷ r) f
+    kept false true l e f = ap (λ (v : Bool). keep v a (filter p l)) e ∙ f
     kept true false l e f = f
     kept false false l e f = f
 
 module _ (trades : ℕ → Bool) where
   limit-alike : (a b low high : ℕ) (t : Bool) → ((i : ℕ) → low ≤ i → i ≤ high → (leb a i && leb i b) ≡ t) → limitTo a b (tradingDays trades low high) ≡ whole t (tradingDays trades low high)
-  limit-alike a b low high t h = select-alike (λ n. leb a n && leb n b) trades t (suc high - low) low (λ i x y. h i x (omega arith))
+  limit-alike a b low high t h = filter-alike (λ n. leb a n && leb n b) trades t (suc high - low) low (λ i x y. h i x (omega arith))
 
-  limit-before : (a b low : ℕ) → 1 ≤ a → limitTo a b (tradingDays trades low (pred a)) ≡ []
-  limit-before a b low o = limit-alike a b low (pred a) false (λ i x y. simp (lt-leb a i (omega arith)))
+  limit-before : (a b low : ℕ) → 1 ≤ a → limitTo a b (tradingDays trades low (a - 1)) ≡ []
+  limit-before a b low o = limit-alike a b low (a - 1) false (λ i x y. simp (lt-leb a i (omega arith)))
 
   limit-after : (a b high : ℕ) → limitTo a b (tradingDays trades (suc b) high) ≡ []
   limit-after a b high = limit-alike a b (suc b) high false (λ i x y. both (leb a i) (lt-leb i b (omega arith)))
@@ -50,18 +50,18 @@ module _ (trades : ℕ → Bool) where
   -- The trading days of a longer range, limited to a shorter one, are those of the shorter one.
   limited : (a b low high : ℕ) → 1 ≤ a → a ≤ b → low ≤ a → b ≤ high → limitTo a b (tradingDays trades low high) ≡ tradingDays trades a b
   limited a b low high o h p q =
-      let e : suc (pred a) ≡ a = omega arith in
-      ap (limitTo a b) (trading-split trades low (pred a) high (omega arith) (omega arith) ∙ ap (λ (x : ℕ). before ++ tradingDays trades x high) e)
+      let e : suc (a - 1) ≡ a = omega arith in
+      ap (limitTo a b) (trading-split trades low (a - 1) high (omega arith) (omega arith) ∙ ap (λ (x : ℕ). before ++ tradingDays trades x high) e)
       ∙ ap (λ (l : List ℕ). limitTo a b (before ++ l)) (trading-split trades a b high (omega arith) q)
-      ∙ select-append (λ n. leb a n && leb n b) before (tradingDays trades a b ++ after)
+      ∙ filter-append (λ n. leb a n && leb n b) before (tradingDays trades a b ++ after)
       ∙ ap (λ (l : List ℕ). l ++ limitTo a b (tradingDays trades a b ++ after)) (limit-before a b low o)
-      ∙ select-append (λ n. leb a n && leb n b) (tradingDays trades a b) after
+      ∙ filter-append (λ n. leb a n && leb n b) (tradingDays trades a b) after
       ∙ ap (λ (l : List ℕ). l ++ limitTo a b after) (limit-inside a b)
       ∙ ap (λ (l : List ℕ). tradingDays trades a b ++ l) (limit-after a b high)
       ∙ append-nil (tradingDays trades a b)
     where
       before : List ℕ
-      before = tradingDays trades low (pred a)
+      before = tradingDays trades low (a - 1)
 
       after : List ℕ
       after = tradingDays trades (suc b) high
@@ -70,12 +70,12 @@ module _ (trades : ℕ → Bool) where
   tile-order a [] b t = omega arith
   tile-order a (r ∷ rs) b t = omega (arith, tile-order (suc (r .last)) rs b (t .2))
 
-  joined-days : (a : ℕ) (rs : List DateRange) (b : ℕ) → Tile a rs b → joined trades rs ≡ tradingDays trades a b
-  joined-days a [] b t = sym (ap (select trades) (days-none a b (omega arith)) ∙ select-none trades)
+  joined-days : (a : ℕ) (rs : List DateRange) (b : ℕ) → Tile a rs b → joined (listOf trades) rs ≡ tradingDays trades a b
+  joined-days a [] b t = sym (ap (filter trades) (days-none a b (omega arith)) ∙ filter-none trades)
   joined-days a (r ∷ rs) b t =
-      ap (λ (x : ℕ). tradingDays trades x (r .last) ++ joined trades rs) (t .0)
+      ap (λ (x : ℕ). tradingDays trades x (r .last) ++ joined (listOf trades) rs) (t .0)
       ∙ ap (λ (l : List ℕ). tradingDays trades a (r .last) ++ l) (joined-days (suc (r .last)) rs b (t .2))
       ∙ sym (trading-split trades a (r .last) b (t .1) (omega (arith, tile-order (suc (r .last)) rs b (t .2))))
 
-  pub limited-months : (a b low high : ℕ) (rs : List DateRange) → 1 ≤ a → a ≤ b → Tile low rs high → low ≤ a → b ≤ high → limitTo a b (joined trades rs) ≡ tradingDays trades a b
+  pub limited-months : (a b low high : ℕ) (rs : List DateRange) → 1 ≤ a → a ≤ b → Tile low rs high → low ≤ a → b ≤ high → limitTo a b (joined (listOf trades) rs) ≡ tradingDays trades a b
   limited-months a b low high rs o h t p q = ap (limitTo a b) (joined-days low rs high t) ∙ limited a b low high o h p q

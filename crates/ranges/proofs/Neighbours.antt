@@ -1,11 +1,11 @@
 -- The laws of the next and the previous trading day: a day of the search, for the loops, and where the answer lies.
 -- Assumes nothing.
-use Prim.Native.Nat.{ℕ, zero, suc, pred, _+_, _-_, _≤_, _<_}
+use Prim.Native.Nat.{ℕ, zero, suc, _+_, _-_, _≤_, _<_}
 use mathlib.Core.Path.{_≡_, sym, ap, _∙_, subst}
 use mathlib.Core.Bool.{Bool, true, false}
 use mathlib.Core.List.{List, _∷_, reverse}
 use native.Mathlib.Omega.{arith}
-use Rattle.gregorian.specs.Calendar.{lastDay}
+use Rattle.gregorian.specs.Calendar.{firstDay, lastDay}
 use Rattle.utils.specs.declared.OptionalDay.{OptionalDay}
 use Rattle.utils.specs.declared.OptionalDay.the-variants.{Day, None}
 use Rattle.utils.specs.Weekday.{InYears, mapDay}
@@ -31,21 +31,18 @@ module _ (trades : ℕ → Bool) where
     next-passed h e = next-day h false e
 
   -- The previous one: day m - 1 is looked at, and then the days before it.
-  module _ (m : ℕ) where
-    pub previous-none : m ≤ 1 → previousTradingDay trades m ≡ None
-    previous-none h = ap (λ (l : List ℕ). find trades (reverse l)) (days-none 1 (pred m) (omega arith)) ∙ find-none trades
+  module _ (first m : ℕ) (o : 1 ≤ first) where
+    pub previous-none : m ≤ first → previousTradingDay trades first m ≡ None
+    previous-none h = ap (λ (l : List ℕ). find trades (reverse l)) (days-none first (m - 1) (omega arith)) ∙ find-none trades
 
-    previous-day : 1 < m → (t : Bool) → trades (m - 1) ≡ t → previousTradingDay trades m ≡ found t (m - 1) (previousTradingDay trades (m - 1))
+    previous-day : first < m → (t : Bool) → trades (m - 1) ≡ t → previousTradingDay trades first m ≡ found t (m - 1) (previousTradingDay trades first (m - 1))
     previous-day h t e =
-        let one : pred m ≡ m - 1 = omega arith in
-        let two : m - 1 - 1 ≡ pred (m - 1) = omega arith in
-        find-first trades (reverse (days 1 (pred m))) (m - 1) (reverse (days 1 (pred (m - 1))))
-        (ap (λ (i : ℕ). reverse (days 1 i)) one ∙ days-last 1 (m - 1) (omega arith) (omega arith) ∙ ap (λ (i : ℕ). (m - 1) ∷ reverse (days 1 i)) two) t e
+        find-first trades (reverse (days first (m - 1))) (m - 1) (reverse (days first (m - 1 - 1))) (days-last first (m - 1) (omega arith) (omega arith)) t e
 
-    pub previous-found : 1 < m → trades (m - 1) ≡ true → previousTradingDay trades m ≡ Day (m - 1)
+    pub previous-found : first < m → trades (m - 1) ≡ true → previousTradingDay trades first m ≡ Day (m - 1)
     previous-found h e = previous-day h true e
 
-    pub previous-passed : 1 < m → trades (m - 1) ≡ false → previousTradingDay trades m ≡ previousTradingDay trades (m - 1)
+    pub previous-passed : first < m → trades (m - 1) ≡ false → previousTradingDay trades first m ≡ previousTradingDay trades first (m - 1)
     previous-passed h e = previous-day h false e
 
 -- What holds of no day, and of each of the days, holds of what the search finds.
@@ -62,8 +59,8 @@ find-by trades P (suc k) a z h = by-test (trades a) (find-by trades P k (suc a) 
 pub next-in-years : (trades : ℕ → Bool) (n : ℕ) → InYears (nextTradingDay trades lastDay n)
 next-in-years trades n = find-by trades InYears (suc lastDay - suc n) (suc n) tt (λ m l u. (omega arith, omega arith))
 
-pub previous-in-years : (trades : ℕ → Bool) (n : ℕ) → 1 ≤ n → n ≤ lastDay → InYears (previousTradingDay trades n)
+pub previous-in-years : (trades : ℕ → Bool) (n : ℕ) → 1 ≤ n → n ≤ lastDay → InYears (previousTradingDay trades firstDay n)
 previous-in-years trades n o h =
     subst InYears
-    (sym (ap (find trades) (days-mirror 1 (pred n) n (omega arith) o (omega arith)) ∙ find-map trades (λ i. n - i) (days (n - pred n) (n - 1))))
-    (find-by (λ i. trades (n - i)) (λ r. InYears (mapDay (λ i. n - i) r)) (suc (n - 1) - (n - pred n)) (n - pred n) tt (λ m l u. (omega arith, omega arith)))
+    (sym (ap (find trades) (days-mirror 1 (n - 1) n (omega arith) o (omega arith)) ∙ find-map trades (λ i. n - i) (days (n - (n - 1)) (n - 1))))
+    (find-by (λ i. trades (n - i)) (λ r. InYears (mapDay (λ i. n - i) r)) (suc (n - 1) - (n - (n - 1))) (n - (n - 1)) tt (λ m l u. (omega arith, omega arith)))

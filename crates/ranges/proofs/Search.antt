@@ -10,8 +10,8 @@ use Rattle.utils.specs.declared.OptionalDay.{OptionalDay}
 use Rattle.utils.specs.declared.OptionalDay.the-variants.{Day, None}
 use Rattle.utils.specs.Weekday.{mapDay}
 use Rattle.ranges.specs.Ranges.{days, found, find}
-use Rattle.ranges.specs.Agreement.{NextCall}
-use Rattle.ranges.proofs.Lists.{test, order, days-next}
+use Rattle.ranges.specs.Agreement.{NonTradingBetween, NextCall}
+use Rattle.ranges.proofs.Lists.{test, order, days-next, between-length}
 
 module _ (trades : ℕ → Bool) where
   pub find-none : find trades [] ≡ None
@@ -77,17 +77,12 @@ module _ (trades : ℕ → Bool) where
       ∙ finds k (suc n) m b (omega arith) l (record { from = q; trading = f .trading; non-trading = λ i x y. f .non-trading i (omega arith) y }))
       (order m n)
 
-  -- The next call on n, where one of the eleven days after it trades.
-  pub next-call : (last n w : ℕ) → n < w → w ≤ n + 11 → w ≤ last → trades w ≡ true → (m : ℕ) × NextCall trades last n m
-  next-call last n w h k l e =
+  -- The next call on n, where one of the days after it trades, up to `most` and one.
+  pub next-call : (most last n w : ℕ) → n < w → w ≤ n + suc most → w ≤ last → trades w ≡ true → (m : ℕ) × NextCall trades most last n m
+  next-call most last n w h k l e =
       let r = first (w - suc n) (suc n) (ap trades (omega arith) ∙ e) in
-      let f = r .2 in (
-        r .0,
-        record {
-          answers = finds (w - suc n) (suc n) (r .0) last (r .1) (omega (arith, r .1)) f;
-          trading = f .trading;
-          apart = f .from;
-          short = omega (arith, r .1);
-          non-trading = f .non-trading;
-        },
-      )
+      let m : ℕ = r .0 in
+      let f = r .2 in
+      let between : NonTradingBetween trades most n m =
+      record { ordered = f .from; at-most = omega (arith, r .1, between-length n m (f .from)); non-trading = f .non-trading } in
+      (m, (finds (w - suc n) (suc n) m last (r .1) (omega (arith, r .1)) f, f .trading, between))

@@ -1,6 +1,6 @@
 -- The trading days of a date range and the ways to them: docs/SCOPE.md [next], [previous], [count], [agreement]. A day is its day
 -- number; `trades` is any rule of which days trade. Assumes nothing.
-use Prim.Native.Nat.{ℕ, zero, suc, pred, _+_, _-_}
+use Prim.Native.Nat.{ℕ, zero, suc, _+_, _-_}
 use mathlib.Core.Bool.{Bool, true, false, _&&_}
 use mathlib.Core.List.{List, [], _∷_, _++_, reverse}
 use lib.Dec.{leb}
@@ -18,26 +18,26 @@ daysFrom a (suc k) = a ∷ daysFrom (suc a) k
 abbrev pub days : ℕ → ℕ → List ℕ
 days a b = daysFrom a (suc b - a)
 
--- n before the days, if the test holds
-abbrev pub keep : Bool → ℕ → List ℕ → List ℕ
-keep true n ds = n ∷ ds
-keep false n ds = ds
+-- x in front of the list, if the test holds
+abbrev pub keep : {A : Type 0} → Bool → A → List A → List A
+keep true x l = x ∷ l
+keep false x l = l
 
--- those of the days that pass the test
-unfoldable pub select : (ℕ → Bool) → List ℕ → List ℕ
-select test [] = []
-select test (n ∷ ds) = keep (test n) n (select test ds)
+-- those of the list that pass the test
+unfoldable pub filter : {A : Type 0} → (A → Bool) → List A → List A
+filter test [] = []
+filter test (x ∷ l) = keep (test x) x (filter test l)
 
 -- [agreement-range]: the list of the range ("stretch") from a to b
 abbrev pub tradingDays : (ℕ → Bool) → ℕ → ℕ → List ℕ
-tradingDays trades a b = select trades (days a b)
+tradingDays trades a b = filter trades (days a b)
 
 -- ---- the neighbouring trading days
 
--- day n if the test holds, or else what comes later
+-- day n if the test holds, or else what the rest of the search finds
 abbrev pub found : Bool → ℕ → OptionalDay → OptionalDay
-found true n later = Day n
-found false n later = later
+found true n rest = Day n
+found false n rest = rest
 
 -- the first of the days that trades
 unfoldable pub find : (ℕ → Bool) → List ℕ → OptionalDay
@@ -48,9 +48,9 @@ find trades (n ∷ ds) = found (trades n) n (find trades ds)
 abbrev pub nextTradingDay : (ℕ → Bool) → ℕ → ℕ → OptionalDay
 nextTradingDay trades last n = find trades (days (suc n) last)
 
--- [previous]: of the days before n, down to day 1
-abbrev pub previousTradingDay : (ℕ → Bool) → ℕ → OptionalDay
-previousTradingDay trades n = find trades (reverse (days 1 (pred n)))
+-- [previous]: of the days before n, down to the first of all
+abbrev pub previousTradingDay : (ℕ → Bool) → ℕ → ℕ → OptionalDay
+previousTradingDay trades first n = find trades (reverse (days first (n - 1)))
 
 -- ---- the count, day by day
 
@@ -69,21 +69,26 @@ countTradingDays trades a b = countFrom trades 0 a (suc b - a)
 
 -- ---- parts and months
 
--- [agreement-parts]: the sum of the counts of the parts ("pieces"). Each split date ("cut date") starts a part, and the part before
--- it ends on the day before.
-abbrev pub countParts : (ℕ → Bool) → ℕ → List ℕ → ℕ → ℕ
-countParts trades a [] b = countTradingDays trades a b
-countParts trades a (c ∷ splits) b = countTradingDays trades a (pred c) + countParts trades c splits b
-
 pub record DateRange : Type 0 where
   pub first : ℕ
   pub last : ℕ
 
--- the trading days of one range after the other
-abbrev pub joined : (ℕ → Bool) → List DateRange → List ℕ
-joined trades [] = []
-joined trades (r ∷ rs) = tradingDays trades (r .first) (r .last) ++ joined trades rs
+-- [agreement-parts]: the parts ("pieces") of the range from a to b. Each split date ("cut date") starts a part, and the part before it
+-- ends on the day before.
+abbrev pub parts : ℕ → List ℕ → ℕ → List DateRange
+parts a [] b = record { first = a; last = b } ∷ []
+parts a (c ∷ splits) b = record { first = a; last = c - 1 } ∷ parts c splits b
 
--- those of the days that lie from a to b
+-- the sum of a number for each item
+abbrev pub sumOf : {A : Type 0} → (A → ℕ) → List A → ℕ
+sumOf f [] = 0
+sumOf f (x ∷ l) = f x + sumOf f l
+
+-- [agreement-months]: the lists of all items, joined in order
+abbrev pub joined : {A B : Type 0} → (A → List B) → List A → List B
+joined f [] = []
+joined f (x ∷ l) = f x ++ joined f l
+
+-- [agreement-months]: those of the days that lie from a to b
 abbrev pub limitTo : ℕ → ℕ → List ℕ → List ℕ
-limitTo a b = select (λ n. leb a n && leb n b)
+limitTo a b = filter (λ n. leb a n && leb n b)

@@ -34,10 +34,11 @@ unfoldable pub boolAnswer : BoolResult → BoolAnswer
 boolAnswer (BoolResult.Ok b) = record { error = 0; value = flagOf b; date = noDate }
 boolAnswer (BoolResult.Err e) = record { error = errorNumber e; value = 0; date = errorDate e }
 
--- Without an error, the day with its distance and its mark; an error has its number, and every other field is 0.
+-- Without an error, the day with its distance and its mark; an error has its number and the date that is returned with it, which none
+-- of errors 8, 5 and 6 has. Every other field is 0.
 unfoldable pub tradingDayAnswer : TradingDayResult → TradingDayAnswer
 tradingDayAnswer (TradingDayResult.Ok d) = record { error = 0; date = d .date; distance = d .distance; outside = flagOf (d .outside) }
-tradingDayAnswer (TradingDayResult.Err e) = record { error = errorNumber e; date = noDate; distance = 0; outside = 0 }
+tradingDayAnswer (TradingDayResult.Err e) = record { error = errorNumber e; date = errorDate e; distance = 0; outside = 0 }
 
 -- Without an error, the value; an error has its number, and every other field is 0.
 unfoldable pub timeAnswer : TimeResult → TimeAnswer

@@ -5,10 +5,9 @@ ghost use Rattle.trading_calendar.specs.Answers.{tradingDayAnswer};
 use crate::flag;
 use calendar::TradingDayResult;
 use gregorian::Date;
-use gregorian::NO_DATE;
 
-// tc_trading_day_result of the header, [host-answers]: error is 0 and the rest is the answer; or error is a number of [errors],
-// and every other field is 0 [reading-error-6].
+// tc_trading_day_result of the header, [host-answers]: error is 0 and the rest is the answer; or error is a number of [errors], and
+// every other field is 0 [reading-nothing] [reading-error-6].
 #[repr(C)]
 pub struct TradingDayAnswer {
     pub error: u32,
@@ -32,7 +31,7 @@ fn trading_day_answer(result: TradingDayResult) -> TradingDayAnswer
         }
         TradingDayResult::Err(e) => TradingDayAnswer {
             error: error::number(e),
-            date: NO_DATE,
+            date: error::date(e),
             distance: 0,
             outside: 0,
         },

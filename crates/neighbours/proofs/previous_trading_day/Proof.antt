@@ -3,6 +3,7 @@ use Prim.Native.Nat.{_-_, _≤_}
 use mathlib.Core.Path.{_≡_, refl, sym, _∙_}
 use native.Mathlib.Omega.{arith}
 use borrow.Author.Needs.{needs}
+use Rattle.gregorian.specs.Calendar.{firstDay}
 use Rattle.markets.specs.Markets.{isTradingDay}
 use Rattle.ranges.specs.Ranges.{previousTradingDay}
 use Rattle.ranges.proofs.Neighbours.{previous-none, previous-found, previous-passed}
@@ -12,7 +13,7 @@ use Rattle.neighbours.proofs.previous_trading_day.Tie as tie
 -- what is left to search from the day of the loop is all of the search
 abbrev Inv-loop : tie.InvT-loop
 Inv-loop market n previous₀ previous =
-    (1 ≤ previous) × (previous ≤ n) × (previousTradingDay (isTradingDay market) n ≡ previousTradingDay (isTradingDay market) previous)
+    (firstDay ≤ previous) × (previous ≤ n) × (previousTradingDay (isTradingDay market) firstDay n ≡ previousTradingDay (isTradingDay market) firstDay previous)
 
 -- the days left in the years
 abbrev μ-loop : tie.MeasureT-loop
@@ -29,7 +30,7 @@ returns c =
     let s = c .before .before .before in
     sym
     (s .loop .inv .2
-    ∙ previous-found (isTradingDay (s .before .args .market)) (s .loop .previous) (omega arith)
+    ∙ previous-found (isTradingDay (s .before .args .market)) firstDay (s .loop .previous) (omega arith) (omega arith)
     (sym (c .before .is-trading-day .ensures) ∙ c .if1 .taken))
 
 loop-again : tie.Need-loop-again Inv-loop μ-loop
@@ -38,7 +39,7 @@ loop-again c =
       omega arith,
       omega arith,
       s .loop .inv .2
-          ∙ previous-passed (isTradingDay (s .before .args .market)) (s .loop .previous) (omega arith)
+          ∙ previous-passed (isTradingDay (s .before .args .market)) firstDay (s .loop .previous) (omega arith) (omega arith)
           (sym (c .before .is-trading-day .ensures) ∙ c .if1 .left),
     )
 
@@ -46,7 +47,7 @@ returns-2 : tie.Need-returns-2 Inv-loop μ-loop
 returns-2 c =
     sym
     (c .before .loop .inv .2
-    ∙ previous-none (isTradingDay (c .before .before .args .market)) (c .before .loop .previous) (omega arith))
+    ∙ previous-none (isTradingDay (c .before .before .args .market)) firstDay (c .before .loop .previous) (omega arith) (omega arith))
 
 pub previous-trading-day-spec : {M : Type 1} → statement M
 previous-trading-day-spec =

@@ -2,7 +2,6 @@
 use Prim.Native.Nat.{ℕ}
 use mathlib.Core.Path.{ap, sym, _∙_}
 use borrow.Author.Needs.{needs}
-use Rattle.gregorian.specs.Calendar.{noDate}
 use Rattle.trading_calendar.specs.declared.neighbours.TradingDayAnswer.{TradingDayAnswer}
 use Rattle.trading_calendar.specs.Answers.{tradingDayAnswer}
 use Rattle.trading_calendar.proofs.neighbours.trading_day_answer.Statement.{statement}
@@ -18,9 +17,9 @@ returns c =
 returns-2 : tie.Need-returns-2
 unfolding tradingDayAnswer
 returns-2 c =
-    ap {B = TradingDayAnswer} (λ (v : ℕ). record { error = v; date = noDate; distance = 0; outside = 0 }) (c .number .ensures)
-    ∙ ap tradingDayAnswer (sym (c .before .before .result2 .given .1))
+    (λ j. record { error = c .before .number .ensures j; date = c .date2 .ensures j; distance = 0; outside = 0 })
+    ∙ ap tradingDayAnswer (sym (c .before .before .before .result2 .given .1))
 
 pub trading-day-answer-spec : {M : Type 1} → statement M
 trading-day-answer-spec =
-    tie.close (tie.spec (search needs) (search needs) (search needs) (search needs) returns returns-2)
+    tie.close (tie.spec (search needs) (search needs) (search needs) (search needs) (search needs) returns returns-2)
