@@ -1,11 +1,11 @@
 // Rows about hours: the arguments of a call from the numbers of a row, and the fields of each C struct, in order.
 use crate::numbers::Numbers;
+use answers::records::Hours;
+use answers::trading_hours::HoursAnswer;
+use answers::trading_hours::SessionAnswer;
+use answers::trading_hours::TimeAnswer;
 use gregorian::Date;
 use schedule::Session;
-use trading_calendar::records::Hours;
-use trading_calendar::trading_hours::HoursAnswer;
-use trading_calendar::trading_hours::SessionAnswer;
-use trading_calendar::trading_hours::TimeAnswer;
 use trading_calendar::trading_hours::tc_trading_hours_new;
 
 pub fn session(start: u32, end: u32) -> Session {

@@ -1,83 +1,24 @@
-// The calls about hours that a host makes, and the structs of their answers. Labels in brackets are those of docs/SCOPE.md.
+// The calls about hours that a host makes. Labels in brackets are those of docs/SCOPE.md.
 ghost use mathlib.Core.Path.{_≡_};
 ghost use Rattle.gregorian.specs.Calendar.{date};
 ghost use Rattle.calendar.specs.Calls.{tradingHoursResult, isOpenResult};
 ghost use Rattle.hours.specs.Calls.{sessionNewResult, sessionContainsResult, tradingHoursNewResult, withEarlyCloseResult};
 ghost use Rattle.hours.specs.Calls.{isEarlyCloseResult, marketCloseResult, isOpenAtResult};
-ghost use Rattle.trading_calendar.specs.Records.{optionalSession, tradingHoursOf};
-ghost use Rattle.trading_calendar.specs.Answers.{boolAnswer, timeAnswer, sessionAnswer, hoursAnswer};
-use crate::BoolAnswer;
-use crate::bool_answer;
-use crate::records::Hours;
-use crate::records::NO_HOURS;
-use crate::records::NO_SESSION;
-use crate::records::hours_of;
-use crate::records::optional_session;
-use crate::records::trading_hours_of;
-use error::TimeResult;
+ghost use Rattle.answers.specs.Records.{optionalSession, tradingHoursOf};
+ghost use Rattle.answers.specs.Answers.{boolAnswer, timeAnswer, sessionAnswer, hoursAnswer};
+use answers::BoolAnswer;
+use answers::bool_answer;
+use answers::records::Hours;
+use answers::records::optional_session;
+use answers::records::trading_hours_of;
+use answers::trading_hours::HoursAnswer;
+use answers::trading_hours::SessionAnswer;
+use answers::trading_hours::TimeAnswer;
+use answers::trading_hours::hours_answer;
+use answers::trading_hours::session_answer;
+use answers::trading_hours::time_answer;
 use gregorian::Date;
-use schedule::HoursResult;
 use schedule::Session;
-use schedule::SessionResult;
-
-// tc_time_result, tc_session_result and tc_hours_result of the header, [host-answers]: error is 0 and the other field is the
-// answer; or error is a number of [errors], and every other field is 0.
-#[repr(C)]
-pub struct TimeAnswer {
-    pub error: u32,
-    pub seconds: u32,
-}
-
-#[repr(C)]
-pub struct SessionAnswer {
-    pub error: u32,
-    pub session: Session,
-}
-
-#[repr(C)]
-pub struct HoursAnswer {
-    pub error: u32,
-    pub hours: Hours,
-}
-
-fn time_answer(result: TimeResult) -> TimeAnswer
-    ensures { λ r. ⌜ r ≡ timeAnswer result ⌝ }
-{
-    match result {
-        TimeResult::Ok(seconds) => TimeAnswer { error: 0, seconds },
-        TimeResult::Err(e) => TimeAnswer {
-            error: error::number(e),
-            seconds: 0,
-        },
-    }
-}
-
-fn session_answer(result: SessionResult) -> SessionAnswer
-    ensures { λ r. ⌜ r ≡ sessionAnswer result ⌝ }
-{
-    match result {
-        SessionResult::Ok(session) => SessionAnswer { error: 0, session },
-        SessionResult::Err(e) => SessionAnswer {
-            error: error::number(e),
-            session: NO_SESSION,
-        },
-    }
-}
-
-fn hours_answer(result: HoursResult) -> HoursAnswer
-    ensures { λ r. ⌜ r ≡ hoursAnswer result ⌝ }
-{
-    match result {
-        HoursResult::Ok(hours) => HoursAnswer {
-            error: 0,
-            hours: hours_of(hours),
-        },
-        HoursResult::Err(e) => HoursAnswer {
-            error: error::number(e),
-            hours: NO_HOURS,
-        },
-    }
-}
 
 // [trading-hours]: the hours of the date, in any year, or the first of errors 8 and 5 that applies.
 #[no_mangle]

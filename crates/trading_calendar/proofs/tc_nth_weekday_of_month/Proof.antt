@@ -3,7 +3,7 @@ use mathlib.Core.Path.{ap, sym, _∙_, subst}
 use borrow.Author.Needs.{needs}
 use Rattle.utils.specs.Weekday.{InYears}
 use Rattle.utils.proofs.WeekdayLaws.{nth-in-years}
-use Rattle.trading_calendar.specs.Answers.{optionalDate}
+use Rattle.answers.specs.Answers.{optionalDate}
 use Rattle.trading_calendar.proofs.tc_nth_weekday_of_month.Statement.{statement}
 use Rattle.trading_calendar.proofs.tc_nth_weekday_of_month.Tie as tie
 

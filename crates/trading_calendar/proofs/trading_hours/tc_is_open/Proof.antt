@@ -1,7 +1,7 @@
 -- `trading_calendar::trading_hours::tc_is_open` meets its contract: the answer of the call, as a struct.
 use mathlib.Core.Path.{ap, _∙_}
 use borrow.Author.Needs.{needs}
-use Rattle.trading_calendar.specs.Answers.{boolAnswer}
+use Rattle.answers.specs.Answers.{boolAnswer}
 use Rattle.trading_calendar.proofs.trading_hours.tc_is_open.Statement.{statement}
 use Rattle.trading_calendar.proofs.trading_hours.tc_is_open.Tie as tie
 
