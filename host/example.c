@@ -73,11 +73,16 @@ static void print_regular_hours(uint32_t market, uint32_t year) {
     print_time(regular.end);
 }
 
-/* No error comes here: only near 0001-01-01 and 9999-12-31 is there no such day. The distance is in days, closed ones too. */
+/* The distance is in days, closed ones too. An answer outside 2020 to 2030 is marked: the rules go on there, but are made for these
+ * years. */
 static void print_neighbour(const char *name, tc_trading_day_result answer) {
     printf("%s: ", name);
+    if (answer.error != 0) {
+        printf("error %lu\n", (unsigned long)answer.error);
+        return;
+    }
     print_date(answer.date);
-    printf(", distance %lu\n", (unsigned long)answer.distance);
+    printf(", distance %lu%s\n", (unsigned long)answer.distance, answer.outside == 1 ? ", outside 2020 to 2030" : "");
 }
 
 static void print_nyse(uint32_t year) {

@@ -28,15 +28,15 @@ static tc_date day_before(tc_date date) {
     return date;
 }
 
-/* The first trading day that the steps from a date come to, or the first error of [errors] that applies. */
-static tc_trading_day_result search(tc_date (*step)(tc_date), uint32_t market, tc_date given) {
+/* The first trading day from the date on, one neighbouring day after the other, or the first error of [errors] that applies. */
+static tc_trading_day_result search(tc_date (*neighbour)(tc_date), uint32_t market, tc_date given) {
     tc_trading_day_result answer = {.error = plain_error(market, given)};
     tc_date date = given;
     uint32_t distance = 0;
 
     if (answer.error != 0) return answer;
     do {
-        date = step(date);
+        date = neighbour(date);
         distance++;
     } while (is_date(date) && !plain_trades(market, plain_row_of(date)));
     if (is_date(date)) {

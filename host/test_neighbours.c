@@ -36,14 +36,19 @@ static void both(uint32_t market, uint32_t year, uint32_t month, uint32_t day) {
             of_trading_day(plain_previous_trading_day(market, year, month, day)));
 }
 
-/* Every market, and codes of none, in the years around 2020 to 2030, at both ends and in some between; one market in every year;
- * numbers at and past every limit. */
-static void all_dates(void) {
+/* Some years between those around 2020 to 2030 and both ends. */
+static void some_years(void) {
     static const uint32_t years[] = {100, 400, 1582, 1600, 1900, 2000, 2100};
+    for (size_t i = 0; i < LENGTH(years); i++) ask_years(both, years[i], years[i]);
+}
+
+/* Every market, and codes of none, in the years around 2020 to 2030, at both ends and in some between; one market in every year, as
+ * oracle/run asks for all five; numbers at and past every limit. */
+static void all_dates(void) {
     ask_years(both, 2015, 2035);
     ask_years(both, 0, 2);
     ask_years(both, 9998, 10000);
-    for (size_t i = 0; i < LENGTH(years); i++) ask_years(both, years[i], years[i]);
+    some_years();
     for (uint32_t year = 0; year <= 10000; year++) ask_year(both, year % 5, year);
     ask_limits(both);
 }
@@ -88,22 +93,22 @@ static void there_and_back(enum call law, neighbour *there, neighbour *back, uin
     compare(&calls[law], in, of_trading_day(answer_of(back, market, away.date)), of_trading_day(expected));
 }
 
-/* The answer is the first day of the list, on or back from the day with this index, that trades, and the distance counts the steps.
+/* The answer is the first day of the list, after or before the day with this index, that trades, and the distance counts the days.
  * Where the list ends before, the answer is in the year beyond it, no nearer than that, and is marked. [agreement-call]: in all
  * cases the distance is at most 11. */
-static void by_days(neighbour *call, int step, uint32_t market, int index) {
+static void by_days(neighbour *call, int direction, uint32_t market, int index) {
     tc_date date = days[index].date;
     numbers in = {4, {market, date.year, date.month, date.day}};
     tc_trading_day_result answer = answer_of(call, market, date), expected = {.distance = 1};
     numbers distance = {1, {answer.distance}}, up_to_11 = {1, {answer.distance < 11 ? answer.distance : 11}};
 
-    for (index += step; 0 <= index && index < day_count && !days[index].trades; index += step) expected.distance++;
+    for (index += direction; 0 <= index && index < day_count && !days[index].trades; index += direction) expected.distance++;
     if (0 <= index && index < day_count) {
         expected.date = days[index].date;
     } else {
         if (expected.distance < answer.distance) expected.distance = answer.distance;
         expected.date = answer.date;
-        expected.date.year = step < 0 ? 2019 : 2031;
+        expected.date.year = direction < 0 ? 2019 : 2031;
         expected.outside = 1;
     }
     compare(&calls[BY_DAYS], in, of_trading_day(answer), of_trading_day(expected));

@@ -45,9 +45,10 @@ typedef struct {
     tc_date date;
 } tc_bool_result;
 
-/* error is 0, date is the answer, distance the days from the date given to it, 1 or more [distance], and outside 1 if either date
- * is outside 2020 to 2030, else 0 [outside]; or error is a number of [errors], and every other field is 0 [reading-nothing]
- * [reading-error-6]. */
+/* error is 0, date is the answer, and distance is how many days it is from the date given, 1 or more [distance]. outside is 1 if
+ * the date given or the answer is outside 2020 to 2030, else 0 [outside]: the rules are followed there too, but made for these years,
+ * and TSE for one has no equinox days in others. Or error is a number of [errors], and every other field is 0, outside too
+ * [reading-nothing] [reading-error-6]. */
 typedef struct {
     uint32_t error;
     tc_date date;

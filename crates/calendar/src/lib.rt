@@ -23,8 +23,8 @@ enum DayResult {
     Err(CalendarError),
 }
 
-// The answer of next and previous: its distance in days from the date given [distance], and whether one of the two is outside
-// 2020 to 2030 [outside].
+// The answer of next and previous: its distance in days from the date given [distance], and whether either date is outside 2020
+// to 2030 [outside].
 pub struct TradingDay {
     pub date: Date,
     pub distance: u32,

@@ -16,7 +16,7 @@ abbrev pub Traversal : {A : Type 0} → (A → A → Type 0) → (A → Bool) �
 Traversal Call inside n [] = (m : _) × Call n m × (inside m ≡ false)
 Traversal Call inside n (m ∷ ms) = Call n m × (inside m ≡ true) × Traversal Call inside m ms
 
--- [agreement-call]: the days strictly between two days ("closed days") are at most so many, and none of them trades.
+-- [agreement-call]: the days strictly between two days (the closed days that a "step" passes) are at most so many, and none trades.
 pub record NonTradingBetween (trades : ℕ → Bool) (most earlier later : ℕ) : Type 0 where
   pub ordered : earlier < later
   pub at-most : length (days (suc earlier) (later - 1)) ≤ most
