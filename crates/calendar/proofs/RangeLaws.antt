@@ -1,9 +1,14 @@
 -- The laws of the answers of next and previous.
 -- Assumes nothing.
 use Prim.Native.Nat.{ℕ, _-_, _≤_, _<_}
-use mathlib.Core.Path.{_≡_}
+use mathlib.Core.Path.{_≡_, ap, _∙_}
 use borrow.Author.Tests.{lt-ltb, le-ltb}
-use Rattle.calendar.specs.RangeCalls.{distanceOf}
+use Rattle.utils.specs.declared.OptionalDay.{OptionalDay}
+use Rattle.calendar.specs.declared.DayResult.{DayResult}
+use Rattle.calendar.specs.declared.TradingDayResult.{TradingDayResult}
+use Rattle.calendar.specs.Calls.{checkedDay}
+use Rattle.calendar.specs.RangeCalls.{distanceOf, tradingDayResult, neighbourResult}
+use Rattle.calendar.proofs.CallLaws.{past-ok}
 
 -- The distance to a later day, and to an earlier one.
 module _ (n m r : ℕ) where
@@ -14,3 +19,10 @@ module _ (n m r : ℕ) where
   pub to-earlier : m ≤ n → r ≡ n - m → r ≡ distanceOf n m
   unfolding distanceOf
   to-earlier h e = simp (le-ltb n m h) e
+
+-- The answer of either call: that to the neighbour of the day past the checks.
+pub neighbour-is : (neighbour : ℕ → OptionalDay) (market year month day n : ℕ) (o : OptionalDay) (r : TradingDayResult)
+    → DayResult.Ok n ≡ checkedDay market year month day → o ≡ neighbour n → r ≡ tradingDayResult year n o
+    → r ≡ neighbourResult neighbour market year month day
+neighbour-is neighbour market year month day n o r q e f =
+    past-ok TradingDayResult.Err (λ n. tradingDayResult year n (neighbour n)) _ n r q (f ∙ ap (tradingDayResult year n) e)

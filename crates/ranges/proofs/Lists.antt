@@ -4,7 +4,7 @@ use Prim.Native.Nat.{ℕ, zero, suc, _+_, _-_, _≤_, _<_}
 use mathlib.Core.Path.{_≡_, refl, sym, ap, ap₂, _∙_}
 use mathlib.Core.Bool.{Bool, true, false}
 use mathlib.Core.Logic.{_⊎_, inl, inr, ⊎-elim}
-use mathlib.Core.List.{List, [], _∷_, _++_, append-nil, map, reverse, reverse-append, reverse-cons}
+use mathlib.Core.List.{List, [], _∷_, _++_, append-nil, map, map-append, reverse, reverse-append, reverse-cons}
 use lib.Dec.{leb}
 use lib.ListN.{length}
 use native.Mathlib.Nat.{zero-add, suc-add, add-zero, add-suc}
@@ -60,7 +60,6 @@ from-length (suc k) a = ap suc (from-length k (suc a))
 pub between-length : (earlier later : ℕ) → earlier < later → suc (length (days (suc earlier) (later - 1))) ≡ later - earlier
 between-length earlier later h = omega (arith, from-length (suc (later - 1) - suc earlier) (suc earlier))
 
--- The mirror image: the days backward are c less the days forward.
 from-last : (k a : ℕ) → daysFrom a (suc k) ≡ daysFrom a k ++ ((a + k) ∷ [])
 from-last k a =
     let e : suc k ≡ k + 1 = omega arith in
@@ -79,10 +78,7 @@ days-last a b o h =
     ∙ reverse-append (daysFrom a (b - a)) ((a + (b - a)) ∷ [])
     ∙ ap₂ (λ (i j : ℕ). i ∷ reverse (daysFrom a j)) e l
 
-map-last : (f : ℕ → ℕ) (l : List ℕ) (n : ℕ) → map f (l ++ (n ∷ [])) ≡ map f l ++ (f n ∷ [])
-map-last f [] n = refl
-map-last f (m ∷ l) n = ap (λ (r : List ℕ). f m ∷ r) (map-last f l n)
-
+-- The mirror image: the days backward are c less the days forward.
 from-mirror : (k a c : ℕ) → a + k ≤ suc c → reverse (daysFrom a k) ≡ map (λ i. c - i) (daysFrom (suc c - (a + k)) k)
 unfolding daysFrom
 from-mirror zero a c h = refl
@@ -93,7 +89,7 @@ from-mirror (suc k) a c h =
     reverse-cons a (daysFrom (suc a) k)
     ∙ ap (λ (l : List ℕ). l ++ (a ∷ [])) (from-mirror k (suc a) c (omega arith))
     ∙ ap₂ (λ (x y : ℕ). map (λ i. c - i) (daysFrom x k) ++ (y ∷ [])) e f
-    ∙ sym (map-last (λ i. c - i) (daysFrom s k) (s + k))
+    ∙ sym (map-append (λ i. c - i) (daysFrom s k) ((s + k) ∷ []))
     ∙ ap (map (λ i. c - i)) (sym (from-last k s))
 
 pub days-mirror : (a b c : ℕ) → a ≤ suc b → a ≤ c → b ≤ c → reverse (days a b) ≡ map (λ i. c - i) (days (c - b) (c - a))
