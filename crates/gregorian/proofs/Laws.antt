@@ -9,16 +9,13 @@ use native.Mathlib.Omega.{arith}
 use native.Mathlib.Decide.{decLt}
 use borrow.Author.Tests.{ltb-true, ltb-false, leb-true, le-leb}
 use Rattle.gregorian.specs.declared.Date.{Date}
-use Rattle.gregorian.specs.Calendar.{total, yearLength, monthLength, dayNumber, lastYear, lastDay, Exists, IsDate, isDate, dayAfter, dateOf, date}
+use Rattle.gregorian.specs.Calendar.{total, yearLength, monthLength, dayNumber, lastYear, lastDay, Exists, IsDate, isDate, dayAfter, dateOf, date, number}
 use Rattle.gregorian.proofs.Total.{total-none, total-next, total-mono, place-lt, place-eq, upto}
 use Rattle.gregorian.proofs.Years.{years-is}
 use Rattle.gregorian.proofs.Tests.{and-left, and-right}
 
 abbrev pub DateExists : Date → Type 0
 DateExists t = Exists (t .year) (t .month) (t .day)
-
-abbrev pub number : Date → ℕ
-number t = dayNumber (t .year) (t .month) (t .day)
 
 -- day d + k of a month is k days after day d
 pub days-on : (y m d k : ℕ) → dayNumber y m (d + k) ≡ dayNumber y m d + k

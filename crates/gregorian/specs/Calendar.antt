@@ -65,6 +65,10 @@ isDate y m d = leb 1 y && leb y lastYear && leb 1 m && leb m 12 && leb 1 d && le
 abbrev pub date : ℕ → ℕ → ℕ → Date
 date y m d = record { year = y; month = m; day = d }
 
+-- the day number of a date
+abbrev pub number : Date → ℕ
+number t = dayNumber (t .year) (t .month) (t .day)
+
 -- no date, where an answer has none
 abbrev pub noDate : Date
 noDate = date 0 0 0

@@ -35,7 +35,7 @@ module _ (trades : ℕ → Bool) where
   unfolding countFrom
   count-none a b h = let e : suc b - a ≡ 0 = omega arith in ap (countFrom trades 0 a) e
 
-  splits-order : (a : ℕ) (splits : List ℕ) (b : ℕ) → Splits a splits b → a ≤ suc b
+  pub splits-order : (a : ℕ) (splits : List ℕ) (b : ℕ) → Splits a splits b → a ≤ suc b
   splits-order a [] b h = h
   splits-order a (c ∷ splits) b h = omega (arith, splits-order c splits b (h .1))
 

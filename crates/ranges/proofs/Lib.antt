@@ -1,4 +1,5 @@
 pub mod Lists
+pub mod Items
 pub mod Search
 pub mod Neighbours
 pub mod Traversals

@@ -97,6 +97,16 @@ days-mirror a b c h l k = from-mirror (suc b - a) a c (omega arith) ∙ ap₂ (�
 
 -- ---- filtering
 
+-- a filter of mapped items
+pub filter-map : {A B : Type 0} (p : B → Bool) (f : A → B) (l : List A) → filter p (map f l) ≡ map f (filter (λ x. p (f x)) l)
+unfolding filter
+filter-map p f [] = refl
+filter-map p f (x ∷ l) = ap (keep (p (f x)) (f x)) (filter-map p f l) ∙ keep-map (p (f x))
+  where
+    keep-map : (t : Bool) → keep t (f x) (map f (filter (λ y. p (f y)) l)) ≡ map f (keep t x (filter (λ y. p (f y)) l))
+    keep-map true = refl
+    keep-map false = refl
+
 module _ (p : ℕ → Bool) where
   pub filter-none : filter p [] ≡ []
   unfolding filter
@@ -128,15 +138,6 @@ module _ (p : ℕ → Bool) where
       last true = sym (reverse-cons n (filter p l))
       last false = append-nil (reverse (filter p l))
 
-  pub filter-map : (f : ℕ → ℕ) (l : List ℕ) → filter p (map f l) ≡ map f (filter (λ n. p (f n)) l)
-  unfolding filter
-  filter-map f [] = refl
-  filter-map f (n ∷ l) = ap (keep (p (f n)) (f n)) (filter-map f l) ∙ keep-map (p (f n))
-    where
-      keep-map : (t : Bool) → keep t (f n) (map f (filter (λ n. p (f n)) l)) ≡ map f (keep t n (filter (λ n. p (f n)) l))
-      keep-map true = refl
-      keep-map false = refl
-
   -- none of the days passes
   from-fail : (k a : ℕ) → ((i : ℕ) → a ≤ i → i < a + k → p i ≡ false) → filter p (daysFrom a k) ≡ []
   unfolding daysFrom filter
@@ -164,4 +165,4 @@ module _ (p : ℕ → Bool) where
 
   pub trading-mirror : (a b c : ℕ) → a ≤ suc b → a ≤ c → b ≤ c → reverse (tradingDays p a b) ≡ map (λ i. c - i) (tradingDays (λ i. p (c - i)) (c - b) (c - a))
   trading-mirror a b c h l k =
-      sym (filter-reverse (days a b)) ∙ ap (filter p) (days-mirror a b c h l k) ∙ filter-map (λ i. c - i) (days (c - b) (c - a))
+      sym (filter-reverse (days a b)) ∙ ap (filter p) (days-mirror a b c h l k) ∙ filter-map p (λ i. c - i) (days (c - b) (c - a))

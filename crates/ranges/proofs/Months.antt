@@ -48,7 +48,7 @@ module _ (trades : ℕ → Bool) where
   limit-inside a b = limit-alike a b a b true (λ i x y. simp (le-leb a i x, le-leb i b y))
 
   -- The trading days of a longer range, limited to a shorter one, are those of the shorter one.
-  limited : (a b low high : ℕ) → 1 ≤ a → a ≤ b → low ≤ a → b ≤ high → limitTo a b (tradingDays trades low high) ≡ tradingDays trades a b
+  pub limited : (a b low high : ℕ) → 1 ≤ a → a ≤ b → low ≤ a → b ≤ high → limitTo a b (tradingDays trades low high) ≡ tradingDays trades a b
   limited a b low high o h p q =
       let e : suc (a - 1) ≡ a = omega arith in
       ap (limitTo a b) (trading-split trades low (a - 1) high (omega arith) (omega arith) ∙ ap (λ (x : ℕ). before ++ tradingDays trades x high) e)
@@ -70,7 +70,7 @@ module _ (trades : ℕ → Bool) where
   tile-order a [] b t = omega arith
   tile-order a (r ∷ rs) b t = omega (arith, tile-order (suc (r .last)) rs b (t .2))
 
-  joined-days : (a : ℕ) (rs : List DateRange) (b : ℕ) → Tile a rs b → joined (listOf trades) rs ≡ tradingDays trades a b
+  pub joined-days : (a : ℕ) (rs : List DateRange) (b : ℕ) → Tile a rs b → joined (listOf trades) rs ≡ tradingDays trades a b
   joined-days a [] b t = sym (ap (filter trades) (days-none a b (omega arith)) ∙ filter-none trades)
   joined-days a (r ∷ rs) b t =
       ap (λ (x : ℕ). tradingDays trades x (r .last) ++ joined (listOf trades) rs) (t .0)

@@ -6,7 +6,7 @@ use mathlib.Core.List.{List, [], _∷_, reverse}
 use lib.Dec.{leb}
 use lib.ListN.{length}
 use Rattle.utils.specs.declared.OptionalDay.the-variants.{Day}
-use Rattle.ranges.specs.Ranges.{days, tradingDays, nextTradingDay, previousTradingDay, countTradingDays, DateRange, parts, sumOf, joined, limitTo}
+use Rattle.ranges.specs.Ranges.{daysBetween, tradingDays, nextTradingDay, previousTradingDay, countTradingDays, DateRange, parts, sumOf, joined, limitTo}
 
 -- A traversal ("walk") from n lists these answers: call after call, each on the answer before, while that is inside. The first
 -- answer that is not ends the traversal, and is not listed. `Call n m` says that the call on n answers m, and what else is
@@ -19,7 +19,7 @@ Traversal Call inside n (m ∷ ms) = Call n m × (inside m ≡ true) × Traversa
 -- [agreement-call]: the days strictly between two days (the closed days that a "step" passes) are at most so many, and none trades.
 pub record NonTradingBetween (trades : ℕ → Bool) (most earlier later : ℕ) : Type 0 where
   pub ordered : earlier < later
-  pub at-most : length (days (suc earlier) (later - 1)) ≤ most
+  pub at-most : length (daysBetween earlier later) ≤ most
   pub non-trading : (k : ℕ) → earlier < k → k < later → trades k ≡ false
 
 -- the next call on n answers the trading day m

@@ -18,6 +18,10 @@ daysFrom a (suc k) = a ∷ daysFrom (suc a) k
 abbrev pub days : ℕ → ℕ → List ℕ
 days a b = daysFrom a (suc b - a)
 
+-- the days strictly between two days
+abbrev pub daysBetween : ℕ → ℕ → List ℕ
+daysBetween earlier later = days (suc earlier) (later - 1)
+
 -- x in front of the list, if the test holds
 abbrev pub keep : {A : Type 0} → Bool → A → List A → List A
 keep true x l = x ∷ l
@@ -27,6 +31,11 @@ keep false x l = l
 unfoldable pub filter : {A : Type 0} → (A → Bool) → List A → List A
 filter test [] = []
 filter test (x ∷ l) = keep (test x) x (filter test l)
+
+-- P holds of each item of the list
+abbrev pub Every : {A : Type 0} → (A → Type 0) → List A → Type 0
+Every P [] = Unit {0}
+Every P (x ∷ l) = P x × Every P l
 
 -- [agreement-range]: the list of the range ("stretch") from a to b
 abbrev pub tradingDays : (ℕ → Bool) → ℕ → ℕ → List ℕ

@@ -111,7 +111,7 @@ month-end-by y m false e h =
     let n = next-number (date y m (monthLength y m)) h in
     simp (le-ltb (monthLength y m) (monthLength y m) (omega arith), lt-ltb m 12 (omega arith)) at n
 
-month-end : (y m : ℕ) → isDate y m 1 ≡ true → dayNumber (nextYear y m) (nextMonth m) 1 ≡ dayNumber y m (monthLength y m) + 1
+pub month-end : (y m : ℕ) → isDate y m 1 ≡ true → dayNumber (nextYear y m) (nextMonth m) 1 ≡ dayNumber y m (monthLength y m) + 1
 month-end y m h =
     let x = is-date y m 1 h .exists in
     month-end-by y m _ refl

@@ -1,0 +1,5 @@
+pub mod Dates
+pub mod Traversals
+pub mod Counts
+pub mod Months
+pub mod Theorem

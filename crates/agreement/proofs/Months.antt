@@ -1,0 +1,153 @@
+-- The month calls of a range: what each reads, and the lists joined.
+-- Assumes nothing.
+use Prim.Native.Nat.{ℕ, zero, suc, _+_, _-_, _*_, _≤_, _<_}
+use mathlib.Core.Path.{_≡_, refl, sym, ap, ap₂, _∙_, subst}
+use mathlib.Core.Bool.{Bool, true, false, cond, _&&_}
+use mathlib.Core.Logic.{_⊎_, inl, inr, ⊎-elim}
+use mathlib.Core.List.{List, [], _∷_, _++_, map, map-append, map-map}
+use lib.Dec.{leb, eqb, lit≤}
+use lib.ListN.{length, take}
+use native.Mathlib.Omega.{arith}
+use borrow.Author.Tests.{eqb-true, eqb-false, le-leb}
+use Rattle.gregorian.specs.declared.Date.{Date}
+use Rattle.gregorian.specs.Calendar.{monthLength, dayNumber, lastYear, isDate, Exists, date, number, dateOf}
+use Rattle.gregorian.proofs.Laws.{date-by, month-low, date-of-number, number-of-date}
+use Rattle.utils.specs.Weekday.{nextMonth, nextYear}
+use Rattle.utils.proofs.WeekdayLaws.{month-end}
+use Rattle.markets.specs.Markets.{isTradingDay}
+use Rattle.ranges.specs.Ranges.{daysFrom, days, filter, Every, tradingDays, DateRange, joined, limitTo}
+use Rattle.ranges.specs.Agreement.{Tile, listOf}
+use Rattle.ranges.proofs.Lists.{order, filter-map}
+use Rattle.ranges.proofs.Items.{every-from, every-filter, map-same, filter-same}
+use Rattle.ranges.proofs.Months.{joined-days}
+use Rattle.error.specs.declared.CountResult.{CountResult}
+use Rattle.calendar.specs.Calls.{isSupported}
+use Rattle.calendar.specs.RangeCalls.{monthList, finalBuffer}
+use Rattle.calendar.proofs.MonthLaws.{month-list, month-of-years, written-ok, written-error, final-start}
+use Rattle.agreement.proofs.Dates.{supported-years}
+use Rattle.agreement.specs.CallsAgree.{Month, monthsFrom, Writes, Reads, datesOf, limitToRange}
+
+-- ---- the months in order
+
+-- The month after is month 1 to 12 of a year, and one on in the order of months.
+pub next-month : (y m : ℕ) → 1 ≤ m → m ≤ 12 → (12 * nextYear y m + nextMonth m ≡ suc (12 * y + m)) × (1 ≤ nextMonth m) × (nextMonth m ≤ 12)
+next-month y m l h = by (eqb m 12) refl
+  where
+    by : (t : Bool) → eqb m 12 ≡ t → (12 * cond t (y + 1) y + cond t 1 (m + 1) ≡ suc (12 * y + m)) × (1 ≤ cond t 1 (m + 1)) × (cond t 1 (m + 1) ≤ 12)
+    by true e = let q = eqb-true m 12 e in (omega arith, omega arith, omega arith)
+    by false e = let q = eqb-false m 12 e in (omega arith, omega arith, omega arith)
+
+-- Two months at one place in the order are one month.
+same-month : (y m y′ m′ : ℕ) → 1 ≤ m → m ≤ 12 → 1 ≤ m′ → m′ ≤ 12 → 12 * y + m ≡ 12 * y′ + m′ → (y ≡ y′) × (m ≡ m′)
+same-month y m y′ m′ l h l′ h′ e = (omega arith, omega arith)
+
+-- the first and the last day of a month
+abbrev pub monthRange : Month → DateRange
+monthRange m = record { first = dayNumber (m .year) (m .month) 1; last = dayNumber (m .year) (m .month) (monthLength (m .year) (m .month)) }
+
+pub one-day : (y m d e : ℕ) → d ≤ e → dayNumber y m d ≤ dayNumber y m e
+unfolding dayNumber
+one-day y m d e h = omega arith
+
+-- a month has a first day
+pub first-of-month : {y m d : ℕ} → Exists y m d → Exists y m 1
+first-of-month {y} {m} e =
+    record { y-low = e .y-low; m-low = e .m-low; m-high = e .m-high; d-low = lit≤ tt; d-high = omega (arith, month-low y m (e .m-low) (e .m-high)) }
+
+-- The months from one to another tile the days from the first of the one to the last of the other.
+pub tile : (k y m y′ m′ : ℕ) → 1 ≤ y → 1 ≤ m → m ≤ 12 → 1 ≤ m′ → m′ ≤ 12 → y′ ≤ lastYear → 12 * y + m + k ≡ 12 * y′ + m′
+    → Tile (dayNumber y m 1) (map monthRange (monthsFrom y m (suc k))) (dayNumber y′ m′ (monthLength y′ m′))
+tile zero y m y′ m′ o l h l′ h′ u e =
+    let same = same-month y m y′ m′ l h l′ h′ (omega arith) in
+    let long = month-low y m l h in
+    let start = one-day y m 1 (monthLength y m) (omega arith) in
+    (refl, omega arith, ap₂ (λ (i j : ℕ). suc (dayNumber i j (monthLength i j))) (same .0) (same .1))
+tile (suc k) y m y′ m′ o l h l′ h′ u e =
+    let next = next-month y m l h in
+    let long = month-low y m l h in
+    let start = one-day y m 1 (monthLength y m) (omega arith) in
+    let date : isDate y m 1 ≡ true = date-by y m 1 (o, omega arith) (l, h) (omega arith, omega arith) in
+    let end = month-end y m date in (
+      refl,
+      omega arith,
+      subst (λ (i : ℕ). Tile i (map monthRange (monthsFrom (nextYear y m) (nextMonth m) (suc k))) (dayNumber y′ m′ (monthLength y′ m′))) (end ∙ omega arith)
+          (tile k (nextYear y m) (nextMonth m) y′ m′ (omega arith) (next .1) (next .2) l′ h′ u (omega arith)),
+    )
+
+-- ---- the calls
+
+-- what the calls read
+abbrev pub listed : ℕ → Month → List ℕ
+listed market m = monthList market (m .year) (m .month)
+
+-- month m of the year y, one of 2020 to 2030
+module _ (market : ℕ) (known : market ≤ 4) (y m : ℕ) (year : isSupported y ≡ true) (l : 1 ≤ m) (h : m ≤ 12) where
+  abbrev month : Month
+  month = record { year = y; month = m }
+
+  abbrev bytes : List ℕ
+  bytes = monthList market y m
+
+  writes : (buffer : List ℕ) → length bytes ≤ length buffer → Writes market month buffer bytes
+  writes buffer fits =
+      let ok = month-of-years market y m buffer known year l h ∙ written-ok bytes buffer fits in
+      (ok, ap (λ (r : CountResult). take (length bytes) (finalBuffer r bytes buffer)) ok ∙ final-start bytes buffer (length bytes))
+
+  reads : (buffer : List ℕ) → Reads market month buffer bytes
+  reads buffer =
+      ⊎-elim (λ (fits : length bytes ≤ length buffer). inl (writes buffer fits))
+      (λ (short : length buffer < length bytes).
+      inr (length bytes, month-of-years market y m buffer known year l h ∙ written-error bytes buffer short, writes))
+      (order (length bytes) (length buffer))
+
+  -- The bytes, as dates, are the trading days of the month.
+  dates : datesOf (listed market) month ≡ map dateOf (listOf (isTradingDay market) (monthRange month))
+  unfolding monthList
+  dates =
+      map-same (date y m) (λ d. dateOf (dayNumber y m d)) bytes
+      (every-filter _ _ (days 1 (monthLength y m))
+      (every-from _ (suc (monthLength y m) - 1) 1
+      (λ d a b. sym (date-of-number (date y m d) (record { y-low = low; m-low = l; m-high = h; d-low = a; d-high = omega arith })))))
+      ∙ sym (map-map dateOf (dayNumber y m) bytes)
+      ∙ ap (map dateOf) (month-list market y m)
+    where
+      low : 1 ≤ y
+      low = omega (arith, supported-years y year)
+
+-- ---- the months of a range
+
+-- the months from January 2020 to December 2030, by their places in the order
+abbrev pub MonthsInYears : ℕ → ℕ → ℕ → Type 0
+MonthsInYears y m k = (12 * 2020 < 12 * y + m) × (12 * y + m + k ≤ suc (12 * 2030 + 12))
+
+module _ (market : ℕ) (known : market ≤ 4) where
+  supported : (y m k : ℕ) → 1 ≤ m → m ≤ 12 → MonthsInYears y m (suc k) → isSupported y ≡ true
+  unfolding isSupported
+  supported y m k l h r = simp (le-leb 2020 y (omega arith), le-leb y 2030 (omega arith))
+
+  pub all-read : (buffer : Month → List ℕ) (k y m : ℕ) → 1 ≤ m → m ≤ 12 → MonthsInYears y m k → Every (λ i. Reads market i (buffer i) (listed market i)) (monthsFrom y m k)
+  all-read buffer zero y m l h r = tt
+  all-read buffer (suc k) y m l h r =
+      let next = next-month y m l h in (
+        reads market known y m (supported y m k l h r) l h (buffer (record { year = y; month = m })),
+        all-read buffer k (nextYear y m) (nextMonth m) (next .1) (next .2) (omega arith, omega arith),
+      )
+
+  pub joined-dates : (k y m : ℕ) → 1 ≤ m → m ≤ 12 → MonthsInYears y m k
+      → joined (datesOf (listed market)) (monthsFrom y m k) ≡ map dateOf (joined (listOf (isTradingDay market)) (map monthRange (monthsFrom y m k)))
+  joined-dates zero y m l h r = refl
+  joined-dates (suc k) y m l h r =
+      let next = next-month y m l h in
+      ap₂ (λ (i j : List Date). i ++ j) (dates market known y m (supported y m k l h r) l h)
+      (joined-dates k (nextYear y m) (nextMonth m) (next .1) (next .2) (omega arith, omega arith))
+      ∙ sym (map-append dateOf (listOf (isTradingDay market) (monthRange (record { year = y; month = m }))) (joined (listOf (isTradingDay market)) (map monthRange (monthsFrom (nextYear y m) (nextMonth m) k))))
+
+-- A list of trading days limited to a range, as dates and as day numbers.
+pub limited-dates : (trades : ℕ → Bool) (first last : Date) (a b : ℕ) → 1 ≤ a
+    → limitToRange first last (map dateOf (tradingDays trades a b)) ≡ map dateOf (limitTo (number first) (number last) (tradingDays trades a b))
+limited-dates trades first last a b o =
+    filter-map (λ t. leb (number first) (number t) && leb (number t) (number last)) dateOf (tradingDays trades a b)
+    ∙ ap (map dateOf)
+    (filter-same _ _ (tradingDays trades a b)
+    (every-filter _ trades (days a b)
+    (every-from _ (suc b - a) a (λ i x y. ap (λ (n : ℕ). leb (number first) n && leb n (number last)) (number-of-date i (omega arith))))))

@@ -1,0 +1,164 @@
+-- One claim about the next, previous, month and count calls together: docs/SCOPE.md [agreement]. Dates are year, month and day, and
+-- the calls are the definitions that the contracts of the exported functions cite. Assumes nothing.
+use Prim.Native.Nat.{ℕ, zero, suc, _+_, _-_, _*_, _≤_, _<_}
+use mathlib.Core.Path.{_≡_}
+use mathlib.Core.Bool.{Bool, true, _&&_}
+use mathlib.Core.Logic.{_⊎_}
+use mathlib.Core.List.{List, [], _∷_, map, reverse}
+use lib.Dec.{leb}
+use lib.ListN.{length, take}
+use Rattle.gregorian.specs.declared.Date.{Date}
+use Rattle.gregorian.specs.Calendar.{isDate, date, number, dayAfter, dateOf}
+use Rattle.utils.specs.Weekday.{nextMonth, nextYear}
+use Rattle.markets.specs.Markets.{isTradingDay}
+use Rattle.ranges.specs.Ranges.{daysBetween, filter, Every, tradingDays, sumOf, joined}
+use Rattle.ranges.specs.Agreement.{Traversal, NonTradingBetween}
+use Rattle.error.specs.declared.CountResult.{CountResult}
+use Rattle.error.specs.declared.CalendarError.the-variants.{BufferTooSmall}
+use Rattle.calendar.specs.declared.TradingDayResult.{TradingDayResult}
+use Rattle.calendar.specs.Calls.{isSupported}
+use Rattle.calendar.specs.RangeCalls.{nextTradingDayResult, previousTradingDayResult, tradingDaysInMonthResult, tradingDaysInMonthBuffer, countTradingDaysResult}
+
+-- ---- the range
+
+abbrev pub isDateOf : Date → Bool
+isDateOf t = isDate (t .year) (t .month) (t .day)
+
+-- [agreement-range]: a range ("stretch") goes from a first to a last date, two dates of 2020 to 2030 in order
+pub record IsRange (first last : Date) : Type 0 where
+  pub first-date : isDateOf first ≡ true
+  pub first-year : isSupported (first .year) ≡ true
+  pub last-date : isDateOf last ≡ true
+  pub last-year : isSupported (last .year) ≡ true
+  pub ordered : number first ≤ number last
+
+-- its list: those of all its days that trade
+abbrev pub tradingDates : ℕ → Date → Date → List Date
+tradingDates market first last = map dateOf (tradingDays (isTradingDay market) (number first) (number last))
+
+-- each date is before all that follow it, so that none occurs twice
+abbrev pub Ascending : List Date → Type 0
+Ascending [] = Unit {0}
+Ascending (t ∷ l) = Every (λ u. number t < number u) l × Ascending l
+
+-- the day before; dayAfter of it is the day itself (proofs/Dates.antt, `after-before`)
+abbrev pub dayBefore : Date → Date
+dayBefore t = dateOf (number t - 1)
+
+-- ---- traversals
+
+abbrev pub nextCall : ℕ → Date → TradingDayResult
+nextCall market t = nextTradingDayResult market (t .year) (t .month) (t .day)
+
+abbrev pub previousCall : ℕ → Date → TradingDayResult
+previousCall market t = previousTradingDayResult market (t .year) (t .month) (t .day)
+
+-- [agreement-call]: a call ("step") gives no error and answers a date. `earlier` and `later` are the date given and the answer in
+-- order. At most ten days are strictly between them, and none of these trades; the distance is one more than their number, and
+-- it is the days from the one to the other.
+pub record NeighbourAnswer (market : ℕ) (result : TradingDayResult) (answer earlier later : Date) : Type 0 where
+  pub distance : ℕ
+  pub outside : Bool
+  pub no-error : result ≡ TradingDayResult.Ok (record { date = answer; distance = distance; outside = outside })
+  pub between : NonTradingBetween (isTradingDay market) 10 (number earlier) (number later)
+  pub one-more : distance ≡ suc (length (daysBetween (number earlier) (number later)))
+  pub days-between : number earlier + distance ≡ number later
+
+abbrev pub Next : ℕ → Date → Date → Type 0
+Next market given answer = NeighbourAnswer market (nextCall market given) answer given answer
+
+abbrev pub Previous : ℕ → Date → Date → Type 0
+Previous market given answer = NeighbourAnswer market (previousCall market given) answer answer given
+
+-- ---- months
+
+pub record Month : Type 0 where
+  pub year : ℕ
+  pub month : ℕ
+
+-- k months from a month on
+abbrev pub monthsFrom : ℕ → ℕ → ℕ → List Month
+monthsFrom y m zero = []
+monthsFrom y m (suc k) = record { year = y; month = m } ∷ monthsFrom (nextYear y m) (nextMonth m) k
+
+-- [agreement-months]: the months from that of the first date to that of the last
+abbrev pub monthsOf : Date → Date → List Month
+monthsOf first last =
+    monthsFrom (first .year) (first .month) (suc (12 * last .year + last .month) - (12 * first .year + first .month))
+
+abbrev pub monthCall : ℕ → Month → List ℕ → CountResult
+monthCall market m buffer = tradingDaysInMonthResult market (m .year) (m .month) buffer
+
+-- The call on the buffer gives no error; the first bytes of the buffer after it, as many as it returned, are these.
+abbrev pub Writes : ℕ → Month → List ℕ → List ℕ → Type 0
+Writes market m buffer bytes =
+    (monthCall market m buffer ≡ CountResult.Ok (length bytes))
+    × (take (length bytes) (tradingDaysInMonthBuffer market (m .year) (m .month) buffer) ≡ bytes)
+
+-- so on the month's own buffer; or that gives error 9, and so on every buffer that has the bytes needed
+abbrev pub Reads : ℕ → Month → List ℕ → List ℕ → Type 0
+Reads market m buffer bytes =
+    Writes market m buffer bytes
+    ⊎ ((needed : ℕ) × (monthCall market m buffer ≡ CountResult.Err (BufferTooSmall needed)) × ((room : List ℕ) → needed ≤ length room → Writes market m room bytes))
+
+-- the bytes as days of their month
+abbrev pub datesOf : (Month → List ℕ) → Month → List Date
+datesOf bytes m = map (date (m .year) (m .month)) (bytes m)
+
+-- those of the dates that lie in the range
+abbrev pub limitToRange : Date → Date → List Date → List Date
+limitToRange first last = filter (λ t. leb (number first) (number t) && leb (number t) (number last))
+
+-- the month calls, with these buffers, read some bytes; as dates, joined in order and limited to the range, they are its list
+abbrev pub MonthLists : ℕ → Date → Date → (Month → List ℕ) → Type 0
+MonthLists market first last buffer =
+    (bytes : Month → List ℕ) × Every (λ m. Reads market m (buffer m) (bytes m)) (monthsOf first last)
+    × (limitToRange first last (joined (datesOf bytes) (monthsOf first last)) ≡ tradingDates market first last)
+
+-- ---- counts
+
+abbrev pub countCall : ℕ → Date → Date → CountResult
+countCall market start end =
+    countTradingDaysResult market (start .year) (start .month) (start .day) (end .year) (end .month) (end .day)
+
+pub record Part : Type 0 where
+  pub start : Date
+  pub end : Date
+
+-- [agreement-parts]: each split date ("cut date") starts a part ("piece"), and the part before it ends on the day before
+abbrev pub partsOf : Date → List Date → Date → List Part
+partsOf first [] last = record { start = first; end = last } ∷ []
+partsOf first (split ∷ splits) last = record { start = first; end = dayBefore split } ∷ partsOf split splits last
+
+-- [reading-split-dates]: the split dates are dates in order, from the first date on to the last or the day after it. Two may be equal.
+abbrev pub SplitDates : Date → List Date → Date → Type 0
+SplitDates first [] last = number first ≤ suc (number last)
+SplitDates first (split ∷ splits) last = (isDateOf split ≡ true) × (number first ≤ number split) × SplitDates split splits last
+
+-- the count calls on the parts answer some counts, without an error; they add up to the length of the list
+abbrev pub PartCounts : ℕ → Date → List Date → Date → Type 0
+PartCounts market first splits last =
+    (counts : List ℕ) × (map (λ p. countCall market (p .start) (p .end)) (partsOf first splits last) ≡ map CountResult.Ok counts)
+    × (sumOf (λ n. n) counts ≡ length (tradingDates market first last))
+
+-- ---- the claim
+
+pub record CallsAgree (market : ℕ) (first last : Date) : Type 0 where
+  -- [agreement-range]
+  pub ascending : Ascending (tradingDates market first last)
+  -- [agreement-forward]: next on the day before the range, then on each answer, until one is past the range
+  pub forward : Traversal (Next market) (λ t. leb (number t) (number last)) (dayBefore first) (tradingDates market first last)
+  -- [agreement-backward]: previous on the day after the range, then on each answer, until one is before the range
+  pub backward : Traversal (Previous market) (λ t. leb (number first) (number t)) (dayAfter last) (reverse (tradingDates market first last))
+  -- [agreement-months]: whatever the months' buffers are
+  pub months : (buffer : Month → List ℕ) → MonthLists market first last buffer
+  -- [agreement-count]
+  pub count : countCall market first last ≡ CountResult.Ok (length (tradingDates market first last))
+  -- [agreement-parts]: also where there is no split date; and an empty part counts 0, on the range's first day and after its last too
+  pub parts : (splits : List Date) → SplitDates first splits last → PartCounts market first splits last
+  pub empty-part : (split : Date) → isDateOf split ≡ true → number first ≤ number split → number split ≤ suc (number last)
+      → countCall market split (dayBefore split) ≡ CountResult.Ok 0
+
+-- [agreement], for codes 0 to 4 and every range
+abbrev pub AllCallsAgree : Type 0
+AllCallsAgree = (market : ℕ) (first last : Date) → market ≤ 4 → IsRange first last → CallsAgree market first last
