@@ -7,18 +7,20 @@ use mathlib.Core.List.{List, []}
 use lib.Dec.{leb}
 use lib.ListN.{getD}
 use borrow.Author.Tests.{leb-true}
-use Rattle.gregorian.specs.Calendar.{lastYear}
+use Rattle.gregorian.specs.Calendar.{leap, leapDay, yearLength, monthLength, total, lastYear, isDate, dayNumber, weekdayOf}
 use Rattle.gregorian.proofs.Tests.{and-left, and-right}
 use Rattle.utils.specs.declared.OptionalDay.the-variants.{Day}
-use Rattle.utils.specs.Weekday.{nthWeekdayOfMonth, targetDay}
+use Rattle.utils.specs.Weekday.{firstFrom, targetDay, nthWeekdayOfMonth, firstOfNext, lastUpTo, lastWeekdayOfMonth}
+use Rattle.utils.specs.Easter.{moonDays, easter, calculateEaster, calculateGoodFriday, calculateEasterMonday}
 use Rattle.utils.proofs.WeekdayLaws.{nth-early}
+use Rattle.days.specs.Days.{contains, insert, insertIf, insertDay, matchWeekend}
 use Rattle.days.specs.Requires.{everyYearHas}
 use Rattle.days.proofs.DayLaws.{every-year-date}
-use Rattle.japan.specs.Japan.{getJapanHolidays}
+use Rattle.japan.specs.Japan.{substituteDay, addWithSubstitute, addDayWithSubstitute, equinox, applyGoldenWeekRules, getJapanHolidays}
 use Rattle.markets.specs.Us.{getUsHolidays}
-use Rattle.markets.specs.Uk.{getUkHolidays}
-use Rattle.markets.specs.Canada.{getCanadaHolidays}
-use Rattle.markets.specs.Markets.{holidaysByCode, holidays}
+use Rattle.markets.specs.Uk.{addBoxingDay, getUkHolidays}
+use Rattle.markets.specs.Canada.{boxingDay, getCanadaHolidays}
+use Rattle.markets.specs.Markets.{holidaysByCode, holidays, isWeekend}
 
 -- a month, a weekday, and a number of it up to 4: every year has such a day
 abbrev isEarly : ℕ → ℕ → ℕ → Bool
@@ -47,3 +49,12 @@ closedForm (suc (suc zero)) y l h = (_, simp (early y) at (by-code 2 y))
 closedForm (suc (suc (suc zero))) y l h = (_, simp (early y) at (by-code 3 y))
 closedForm (suc (suc (suc (suc zero)))) y l h = (_, simp (early y) at (by-code 4 y))
 closedForm (suc (suc (suc (suc (suc market))))) y l h = (_, refl)
+
+-- The list by itself. To unfold it is to unfold all that it takes to compute it, and whether a day of the year trades.
+unfoldable pub closedHolidays : (market y : ℕ) → 1 ≤ y → y ≤ lastYear → List ℕ
+unfolding closedForm isWeekend contains insert insertIf insertDay matchWeekend leap leapDay yearLength monthLength total isDate dayNumber weekdayOf firstFrom targetDay lastUpTo firstOfNext lastWeekdayOfMonth moonDays easter calculateEaster calculateGoodFriday calculateEasterMonday substituteDay addWithSubstitute addDayWithSubstitute equinox applyGoldenWeekRules addBoxingDay boxingDay
+closedHolidays market y l h = closedForm market y l h .0
+
+pub closed-holidays : (market y : ℕ) (l : 1 ≤ y) (h : y ≤ lastYear) → holidays market y ≡ closedHolidays market y l h
+unfolding closedHolidays
+closed-holidays market y l h = closedForm market y l h .1

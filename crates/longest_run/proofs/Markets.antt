@@ -5,21 +5,15 @@ use mathlib.Core.Path.{_≡_, refl, ap, _∙_, subst}
 use mathlib.Core.Bool.{true}
 use lib.Dec.{lit≤}
 use native.Mathlib.Omega.{arith}
-use Rattle.gregorian.specs.Calendar.{leap, leapDay, yearLength, monthLength, total, isDate, dayNumber, firstDay, lastDay, weekdayOf}
+use Rattle.gregorian.specs.Calendar.{leap, leapDay, yearLength, monthLength, total, dayNumber, firstDay, lastDay}
 use Rattle.gregorian.proofs.Total.{Upto, upto}
-use Rattle.utils.specs.Weekday.{firstFrom, targetDay, lastUpTo, firstOfNext, lastWeekdayOfMonth}
-use Rattle.utils.specs.Easter.{moonDays, easter, calculateEaster, calculateGoodFriday, calculateEasterMonday}
-use Rattle.days.specs.Days.{contains, insert, insertIf, insertDay, matchWeekend}
-use Rattle.japan.specs.Japan.{substituteDay, addWithSubstitute, addDayWithSubstitute, equinox, applyGoldenWeekRules}
-use Rattle.markets.specs.Uk.{addBoxingDay}
-use Rattle.markets.specs.Canada.{boxingDay}
-use Rattle.markets.specs.Markets.{isWeekend, isTradingDay}
+use Rattle.markets.specs.Markets.{isTradingDay}
 use Rattle.ranges.specs.Ranges.{daysFrom}
 use Rattle.ranges.specs.Agreement.{ShortRuns}
 use Rattle.ranges.proofs.Theorem.{agree}
 use Rattle.ranges.proofs.Runs.{runsUpTo, short-runs}
 use Rattle.longest_run.specs.MarketAgreement.{longestRun, MarketRuns, MarketsAgree}
-use Rattle.longest_run.proofs.ClosedForms.{closedForm}
+use Rattle.longest_run.proofs.ClosedForms.{closedHolidays}
 use Rattle.longest_run.proofs.Years.{tradingFlags, before, yearFlags, year-flags}
 
 -- the test of a market
@@ -27,7 +21,7 @@ abbrev Short : ℕ → Type 0
 Short market = runsUpTo longestRun 0 (yearFlags market 13 2019 (lit≤ tt) (lit≤ tt)) ≡ true
 
 all-short : Upto Short 5
-unfolding runsUpTo tradingFlags yearFlags closedForm daysFrom isWeekend contains insert insertIf insertDay matchWeekend leap leapDay yearLength monthLength total isDate dayNumber weekdayOf firstFrom targetDay lastUpTo firstOfNext lastWeekdayOfMonth moonDays easter calculateEaster calculateGoodFriday calculateEasterMonday substituteDay addWithSubstitute addDayWithSubstitute equinox applyGoldenWeekRules addBoxingDay boxingDay
+unfolding runsUpTo tradingFlags yearFlags daysFrom closedHolidays
 all-short = (((((tt, refl), refl), refl), refl), refl)
 
 -- the first and the last days of 2019 to 2031, and of 2020 to 2030

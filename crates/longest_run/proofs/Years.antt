@@ -12,7 +12,7 @@ use Rattle.days.specs.Days.{contains}
 use Rattle.markets.specs.Markets.{holidays, isWeekend, isHoliday, isTradingDay}
 use Rattle.ranges.specs.Ranges.{daysFrom}
 use Rattle.ranges.proofs.Lists.{from-none, from-split}
-use Rattle.longest_run.proofs.ClosedForms.{closedForm}
+use Rattle.longest_run.proofs.ClosedForms.{closedHolidays, closed-holidays}
 
 -- whether each of the days trades, where these are the holidays
 unfoldable pub tradingFlags : List ℕ → List ℕ → List Bool
@@ -35,7 +35,7 @@ years-high k y h = omega arith
 unfoldable pub yearFlags : (market k y : ℕ) → 1 ≤ y → y + k ≤ suc lastYear → List Bool
 yearFlags market zero y l h = []
 yearFlags market (suc k) y l h =
-    tradingFlags (closedForm market y l (year-high k y h) .0) (daysFrom (suc (before y)) (yearLength y))
+    tradingFlags (closedHolidays market y l (year-high k y h)) (daysFrom (suc (before y)) (yearLength y))
     ++ yearFlags market k (suc y) (year-low y) (years-high k y h)
 
 flags-same : (f g : ℕ → Bool) (k a : ℕ) → ((n : ℕ) → a ≤ n → n < a + k → f n ≡ g n) → map f (daysFrom a k) ≡ map g (daysFrom a k)
@@ -45,16 +45,16 @@ flags-same f g (suc k) a h =
     ap₂ (λ (t : Bool) (l : List Bool). t ∷ l) (h a (omega arith) (omega arith)) (flags-same f g k (suc a) (λ n x y. h n (omega arith) (omega arith)))
 
 -- a day of the year y
-in-year : (n y : ℕ) → 1 ≤ y → y ≤ lastYear → before y < n → n ≤ total yearLength y → dateOf n .year ≡ y
+pub in-year : (n y : ℕ) → 1 ≤ y → y ≤ lastYear → before y < n → n ≤ total yearLength y → dateOf n .year ≡ y
 in-year n y l h s e = sym (year-part n y (omega arith) (record { low = l; high = h; starts = s; ends = e }) .0)
 
-one-year : (market y : ℕ) (l : 1 ≤ y) (h : y ≤ lastYear) → map (isTradingDay market) (daysFrom (suc (before y)) (yearLength y)) ≡ tradingFlags (closedForm market y l h .0) (daysFrom (suc (before y)) (yearLength y))
+one-year : (market y : ℕ) (l : 1 ≤ y) (h : y ≤ lastYear) → map (isTradingDay market) (daysFrom (suc (before y)) (yearLength y)) ≡ tradingFlags (closedHolidays market y l h) (daysFrom (suc (before y)) (yearLength y))
 unfolding isTradingDay isHoliday tradingFlags
 one-year market y l h =
     let next = total-next yearLength y l in
     flags-same _ _ (yearLength y) (suc (before y))
     (λ n s e. ap (λ (ds : List ℕ). not (contains ds n) && not (isWeekend n))
-    (ap (holidays market) (in-year n y l h s (omega (arith, next))) ∙ closedForm market y l h .1))
+    (ap (holidays market) (in-year n y l h s (omega (arith, next))) ∙ closed-holidays market y l h))
 
 -- The flags are those of all days from the first of year y to the last before year y + k.
 pub year-flags : (market k y : ℕ) (l : 1 ≤ y) (h : y + k ≤ suc lastYear) → map (isTradingDay market) (daysFrom (suc (before y)) (before (y + k) - before y)) ≡ yearFlags market k y l h
