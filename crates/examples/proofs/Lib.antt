@@ -1,0 +1,2 @@
+pub mod ClosedRules
+pub mod Table

@@ -1,0 +1,88 @@
+-- The dates of docs/SCOPE.md [examples] that are proved, in one table. Assumes nothing.
+use Prim.Native.Nat.{ℕ}
+use mathlib.Core.Path.{_≡_}
+use mathlib.Core.List.{List, [], _∷_, _++_, map}
+use Rattle.gregorian.specs.declared.Date.{Date}
+use Rattle.gregorian.specs.Calendar.{date, noDate}
+use Rattle.utils.specs.Easter.{calculateEaster}
+use Rattle.error.specs.declared.CountResult.{CountResult}
+use Rattle.error.specs.declared.CalendarError.the-variants.{DateOutOfRange}
+use Rattle.calendar.specs.Calls.{isTradingDayResult, isHolidayResult}
+use Rattle.calendar.specs.RangeCalls.{nextTradingDayResult, countTradingDaysResult}
+use Rattle.answers.specs.declared.OptionalDate.{OptionalDate}
+use Rattle.answers.specs.declared.BoolAnswer.{BoolAnswer}
+use Rattle.answers.specs.declared.neighbours.TradingDayAnswer.{TradingDayAnswer}
+use Rattle.answers.specs.Answers.{optionalDate, boolAnswer, tradingDayAnswer}
+
+-- A call on a market's code, or on a year, and dates; last its answer.
+pub data Example : Type 0 where
+  CalculateEaster : ℕ → OptionalDate → Example
+  IsTradingDay : ℕ → Date → BoolAnswer → Example
+  IsHoliday : ℕ → Date → BoolAnswer → Example
+  NextTradingDay : ℕ → Date → TradingDayAnswer → Example
+  CountTradingDays : ℕ → Date → Date → CountResult → Example
+
+-- The answer is the one of the definition that the contract of the call cites.
+abbrev pub Holds : Example → Type 0
+Holds (CalculateEaster year answer) = optionalDate (calculateEaster year) ≡ answer
+Holds (IsTradingDay market t answer) = boolAnswer (isTradingDayResult market (t .year) (t .month) (t .day)) ≡ answer
+Holds (IsHoliday market t answer) = boolAnswer (isHolidayResult market (t .year) (t .month) (t .day)) ≡ answer
+Holds (NextTradingDay market t answer) = tradingDayAnswer (nextTradingDayResult market (t .year) (t .month) (t .day)) ≡ answer
+Holds (CountTradingDays market s t answer) =
+    countTradingDaysResult market (s .year) (s .month) (s .day) (t .year) (t .month) (t .day) ≡ answer
+
+-- the codes of [markets]
+abbrev pub nyse : ℕ
+nyse = 0
+
+abbrev pub lse : ℕ
+lse = 2
+
+abbrev pub tse : ℕ
+tse = 3
+
+abbrev pub tsx : ℕ
+tsx = 4
+
+-- answers without an error; the mark of the next trading day is not set
+abbrev pub found : Date → OptionalDate
+found t = record { found = 1; date = t }
+
+abbrev pub isYes : BoolAnswer
+isYes = record { error = 0; value = 1; date = noDate }
+
+abbrev pub isNo : BoolAnswer
+isNo = record { error = 0; value = 0; date = noDate }
+
+abbrev pub inside : Date → ℕ → TradingDayAnswer
+inside t distance = record { error = 0; date = t; distance = distance; outside = 0 }
+
+-- a row that names no market, for each of them
+abbrev pub forEachMarket : (ℕ → Example) → List Example
+forEachMarket row = map row (0 ∷ 1 ∷ 2 ∷ 3 ∷ 4 ∷ [])
+
+-- the rows of [examples], in its order
+abbrev pub examples : List Example
+examples =
+    CalculateEaster 2024 (found (date 2024 3 31))
+    ∷ CalculateEaster 1818 (found (date 1818 3 22))
+    ∷ CalculateEaster 1943 (found (date 1943 4 25))
+    ∷ NextTradingDay tse (date 2022 4 28) (inside (date 2022 5 9) 11)
+    ∷ IsTradingDay tse (date 2020 5 6) isYes
+    ∷ IsHoliday tse (date 2021 1 4) isYes
+    ∷ IsTradingDay tsx (date 2022 12 27) isYes
+    ∷ IsHoliday nyse (date 2022 1 3) isYes
+    ∷ IsTradingDay lse (date 2021 12 28) isNo
+    ∷ IsTradingDay lse (date 2021 12 29) isYes
+    ∷ CountTradingDays nyse (date 2025 1 1) (date 2025 1 31) (CountResult.Ok 21)
+    ∷ forEachMarket (λ market. CountTradingDays market (date 2031 1 1) (date 2030 12 31) (CountResult.Ok 0))
+    ++ forEachMarket (λ market. CountTradingDays market (date 2031 1 1) (date 2031 1 1) (CountResult.Err (DateOutOfRange (date 2031 1 1))))
+
+-- a fact of each item of a list, one by one
+abbrev pub All : {A : Type 0} → (A → Type 0) → List A → Type 0
+All P [] = Unit {0}
+All P (x ∷ l) = P x × All P l
+
+-- every row of the table holds
+abbrev pub ExamplesHold : Type 0
+ExamplesHold = All Holds examples
