@@ -19,7 +19,9 @@ use Rattle.ranges.specs.Ranges.{daysBetween, tradingDays, nextTradingDay, previ
 use Rattle.ranges.specs.Agreement.{Traversal, NonTradingBetween, NextCall, PreviousCall}
 use Rattle.ranges.proofs.Lists.{between-length}
 use Rattle.ranges.proofs.Neighbours.{previous-in-years}
-use Rattle.ranges.proofs.Traversals.{traversal-map}
+use Rattle.ranges.proofs.Traversals.{traversal-map, traversal-unique}
+use Rattle.calendar.specs.declared.TradingDay.{TradingDay}
+use Rattle.calendar.specs.declared.TradingDayResult.{TradingDayResult}
 use Rattle.calendar.specs.RangeCalls.{distanceOf, tradingDay, tradingDayResult, neighbourResult}
 use Rattle.calendar.proofs.RangeLaws.{to-later, to-earlier, neighbour-of-date}
 use Rattle.agreement.specs.CallsAgree.{NeighbourAnswer, Next, Previous}
@@ -78,3 +80,16 @@ module _ (market : ℕ) (known : market ≤ 4) where
       let low = previous-low i m k c in
       (previous-answer i m k low c, ap (λ (x : ℕ). leb a x) (number-of-date m low), λ e. (low, omega arith)))
       n l (o, h)
+
+-- A call has one answer, and so the traversal lists no other dates.
+same-date : (d e : TradingDay) → TradingDayResult.Ok d ≡ TradingDayResult.Ok e → d .date ≡ e .date
+same-date d e q = let p : d ≡ e = cc in ap (λ (x : TradingDay). x .date) p
+
+one-date : (market : ℕ) (r : TradingDayResult) (s t earlier later earlier′ later′ : Date) → NeighbourAnswer market r s earlier later → NeighbourAnswer market r t earlier′ later′ → s ≡ t
+one-date market r s t earlier later earlier′ later′ c d = same-date _ _ (sym (c .no-error) ∙ d .no-error)
+
+pub forward-unique : (market : ℕ) (inside : Date → Bool) (n : Date) (l r : List Date) → Traversal (Next market) inside n l → Traversal (Next market) inside n r → l ≡ r
+forward-unique market inside = traversal-unique (Next market) inside (λ n m k c d. one-date market _ m k _ _ _ _ c d)
+
+pub backward-unique : (market : ℕ) (inside : Date → Bool) (n : Date) (l r : List Date) → Traversal (Previous market) inside n l → Traversal (Previous market) inside n r → l ≡ r
+backward-unique market inside = traversal-unique (Previous market) inside (λ n m k c d. one-date market _ m k _ _ _ _ c d)

@@ -8,9 +8,9 @@ use lib.Dec.{ltb, leb, eqb}
 use native.Mathlib.Omega.{arith}
 use borrow.Author.Tests.{ltb-true, leb-true, eqb-true}
 use Rattle.gregorian.specs.declared.Date.{Date}
-use Rattle.gregorian.specs.Calendar.{total, yearLength, lastYear, lastDay, isDate, dateOf}
+use Rattle.gregorian.specs.Calendar.{total, yearLength, lastYear, lastDay, isDate, number, dateOf}
 use Rattle.gregorian.proofs.Tests.{and-left, and-right}
-use Rattle.gregorian.proofs.Laws.{number, is-date, date-of-number}
+use Rattle.gregorian.proofs.Laws.{is-date, date-of-number}
 use Rattle.utils.specs.declared.OptionalDay.{OptionalDay}
 use Rattle.utils.specs.declared.OptionalDay.the-variants.{Day, None}
 use Rattle.days.specs.Days.{contains}

@@ -7,7 +7,7 @@ use mathlib.Core.List.{List, [], _∷_, map}
 use lib.Dec.{ltb}
 use Rattle.gregorian.specs.declared.Date.{Date}
 use Rattle.utils.specs.Easter.{calculateEaster}
-use Rattle.ranges.specs.Ranges.{countFrom, countTradingDays}
+use Rattle.ranges.specs.Ranges.{Every, countFrom, countTradingDays}
 use Rattle.error.specs.declared.BoolResult.{BoolResult}
 use Rattle.error.specs.declared.CountResult.{CountResult}
 use Rattle.error.specs.declared.CalendarError.the-variants.{DateOutOfRange}
@@ -17,7 +17,7 @@ use Rattle.calendar.specs.RangeCalls.{distanceOf}
 use Rattle.answers.specs.declared.BoolAnswer.{BoolAnswer}
 use Rattle.answers.specs.declared.neighbours.TradingDayAnswer.{TradingDayAnswer}
 use Rattle.answers.specs.Answers.{flagOf, boolAnswer, tradingDayAnswer}
-use Rattle.examples.specs.Examples.{Example, CalculateEaster, IsTradingDay, IsHoliday, NextTradingDay, CountTradingDays, Holds, examples, All, ExamplesHold}
+use Rattle.examples.specs.Examples.{Example, CalculateEaster, IsTradingDay, IsHoliday, NextTradingDay, CountTradingDays, Holds, examples, ExamplesHold}
 use Rattle.examples.proofs.ClosedRules.{holidayRule, tradingRule, closedOptional, closedNextResult}
 
 -- ---- the answers, by any rule in the place of the market's
@@ -55,7 +55,7 @@ holds (IsHoliday market t a) q = ap (boolBy market t) (holidayRule market (t .ye
 holds (NextTradingDay market t a) q = ap (nextBy market t) (λ j n. closedNextResult market (t .year) (a .date) n .1 j) ∙ cc
 holds (CountTradingDays market s t a) q = ap (countBy market s t) (tradingRule market (s .year) .1) ∙ cc
 
-all-hold : (rows : List Example) → map computed rows ≡ rows → All Holds rows
+all-hold : (rows : List Example) → map computed rows ≡ rows → Every Holds rows
 all-hold [] q = tt
 all-hold (e ∷ rows) q = (holds e cc, all-hold rows cc)
 

@@ -5,6 +5,7 @@ use mathlib.Core.List.{List, [], _∷_, _++_, map}
 use Rattle.gregorian.specs.declared.Date.{Date}
 use Rattle.gregorian.specs.Calendar.{date, noDate}
 use Rattle.utils.specs.Easter.{calculateEaster}
+use Rattle.ranges.specs.Ranges.{Every}
 use Rattle.error.specs.declared.CountResult.{CountResult}
 use Rattle.error.specs.declared.CalendarError.the-variants.{DateOutOfRange}
 use Rattle.calendar.specs.Calls.{isTradingDayResult, isHolidayResult}
@@ -78,11 +79,6 @@ examples =
     ∷ forEachMarket (λ market. CountTradingDays market (date 2031 1 1) (date 2030 12 31) (CountResult.Ok 0))
     ++ forEachMarket (λ market. CountTradingDays market (date 2031 1 1) (date 2031 1 1) (CountResult.Err (DateOutOfRange (date 2031 1 1))))
 
--- a fact of each item of a list, one by one
-abbrev pub All : {A : Type 0} → (A → Type 0) → List A → Type 0
-All P [] = Unit {0}
-All P (x ∷ l) = P x × All P l
-
 -- every row of the table holds
 abbrev pub ExamplesHold : Type 0
-ExamplesHold = All Holds examples
+ExamplesHold = Every Holds examples

@@ -12,6 +12,7 @@ use Rattle.days.specs.Days.{contains}
 use Rattle.markets.specs.Markets.{holidays, isWeekend, isHoliday, isTradingDay}
 use Rattle.ranges.specs.Ranges.{daysFrom}
 use Rattle.ranges.proofs.Lists.{from-none, from-split}
+use Rattle.ranges.proofs.Items.{every-from, map-same}
 use Rattle.longest_run.proofs.ClosedForms.{closedHolidays, closed-holidays}
 
 -- whether each of the days trades, where these are the holidays
@@ -38,12 +39,6 @@ yearFlags market (suc k) y l h =
     tradingFlags (closedHolidays market y l (year-high k y h)) (daysFrom (suc (before y)) (yearLength y))
     ++ yearFlags market k (suc y) (year-low y) (years-high k y h)
 
-flags-same : (f g : ℕ → Bool) (k a : ℕ) → ((n : ℕ) → a ≤ n → n < a + k → f n ≡ g n) → map f (daysFrom a k) ≡ map g (daysFrom a k)
-unfolding daysFrom
-flags-same f g zero a h = refl
-flags-same f g (suc k) a h =
-    ap₂ (λ (t : Bool) (l : List Bool). t ∷ l) (h a (omega arith) (omega arith)) (flags-same f g k (suc a) (λ n x y. h n (omega arith) (omega arith)))
-
 -- a day of the year y
 pub in-year : (n y : ℕ) → 1 ≤ y → y ≤ lastYear → before y < n → n ≤ total yearLength y → dateOf n .year ≡ y
 in-year n y l h s e = sym (year-part n y (omega arith) (record { low = l; high = h; starts = s; ends = e }) .0)
@@ -52,9 +47,10 @@ one-year : (market y : ℕ) (l : 1 ≤ y) (h : y ≤ lastYear) → map (isTradin
 unfolding isTradingDay isHoliday tradingFlags
 one-year market y l h =
     let next = total-next yearLength y l in
-    flags-same _ _ (yearLength y) (suc (before y))
+    map-same _ _ (daysFrom (suc (before y)) (yearLength y))
+    (every-from _ (yearLength y) (suc (before y))
     (λ n s e. ap (λ (ds : List ℕ). not (contains ds n) && not (isWeekend n))
-    (ap (holidays market) (in-year n y l h s (omega (arith, next))) ∙ closed-holidays market y l h))
+    (ap (holidays market) (in-year n y l h s (omega (arith, next))) ∙ closed-holidays market y l h)))
 
 -- The flags are those of all days from the first of year y to the last before year y + k.
 pub year-flags : (market k y : ℕ) (l : 1 ≤ y) (h : y + k ≤ suc lastYear) → map (isTradingDay market) (daysFrom (suc (before y)) (before (y + k) - before y)) ≡ yearFlags market k y l h
