@@ -22,7 +22,8 @@ use Rattle.ranges.proofs.Items.{every-from, every-filter, map-same, filter-same
 use Rattle.ranges.proofs.Months.{joined-days}
 use Rattle.error.specs.declared.CountResult.{CountResult}
 use Rattle.calendar.specs.Calls.{isSupported}
-use Rattle.calendar.specs.RangeCalls.{monthList, finalBuffer}
+use Rattle.trading_days.specs.Month.{monthList}
+use Rattle.calendar.specs.RangeCalls.{finalBuffer}
 use Rattle.calendar.proofs.MonthLaws.{month-list, month-of-years, written-ok, written-error, final-start}
 use Rattle.agreement.proofs.Dates.{supported-years}
 use Rattle.agreement.specs.CallsAgree.{Month, monthsFrom, Writes, Reads, datesOf, limitToRange}

@@ -6,11 +6,12 @@ use mathlib.Core.List.{List, _++_}
 use lib.Dec.{ltb, leb}
 use lib.ListN.{length, drop}
 use Rattle.gregorian.specs.declared.Date.{Date}
-use Rattle.gregorian.specs.Calendar.{monthLength, firstDay, lastDay, isDate, date, dayNumber, dateOf}
+use Rattle.gregorian.specs.Calendar.{firstDay, lastDay, isDate, date, dateOf}
 use Rattle.utils.specs.declared.OptionalDay.{OptionalDay}
 use Rattle.utils.specs.declared.OptionalDay.the-variants.{Day, None}
 use Rattle.markets.specs.Markets.{isTradingDay}
-use Rattle.ranges.specs.Ranges.{days, filter, nextTradingDay, previousTradingDay, countTradingDays}
+use Rattle.ranges.specs.Ranges.{nextTradingDay, previousTradingDay, countTradingDays}
+unfoldable pub use Rattle.trading_days.specs.Month.{monthList}
 use Rattle.error.specs.declared.CountResult.{CountResult}
 use Rattle.error.specs.declared.CalendarError.the-variants.{UnknownMarket, DateOutOfRange, InvalidDateCalculation, NoTradingDayFound, BufferTooSmall}
 use Rattle.calendar.specs.declared.TradingDay.{TradingDay}
@@ -46,11 +47,7 @@ nextTradingDayResult market = neighbourResult (nextTradingDay (isTradingDay mark
 abbrev pub previousTradingDayResult : ℕ → ℕ → ℕ → ℕ → TradingDayResult
 previousTradingDayResult market = neighbourResult (previousTradingDay (isTradingDay market) firstDay) market
 
--- ---- the list of a month
-
--- [month-list]: those days of the month, by their numbers in it, that trade
-unfoldable pub monthList : ℕ → ℕ → ℕ → List ℕ
-monthList market year month = filter (λ day. isTradingDay market (dayNumber year month day)) (days 1 (monthLength year month))
+-- ---- the list of a month, whose bytes are `monthList` of the crate trading_days
 
 -- [month-error-date]
 unfoldable pub monthErrorDate : ℕ → ℕ → Date

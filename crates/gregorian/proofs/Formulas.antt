@@ -100,6 +100,10 @@ months-near y k h =
     let l = leap-small y in
     upto (λ (k : ℕ). (total (monthLength y) k ≤ 31 * k) × (31 * k ≤ total (monthLength y) k + 7)) 13 (omega arith) k h
 
+pub month-high : (y m : ℕ) → m ≤ 12 → monthLength y m ≤ 31
+unfolding monthLength
+month-high y m h = let l = leap-small y in upto (λ m. monthLength y m ≤ 31) 13 (omega arith) m (omega arith)
+
 year-small : (y : ℕ) → yearLength y ≤ 366
 unfolding yearLength
 year-small y = let l = leap-small y in omega arith

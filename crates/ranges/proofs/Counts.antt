@@ -1,7 +1,7 @@
 -- The count of a range, and of its parts.
 -- Assumes nothing.
 use Prim.Native.Nat.{ℕ, zero, suc, _+_, _-_, _≤_, _<_}
-use mathlib.Core.Path.{_≡_, refl, sym, ap, _∙_}
+use mathlib.Core.Path.{_≡_, refl, sym, ap, ap₂, _∙_}
 use mathlib.Core.Bool.{Bool, true, false}
 use mathlib.Core.List.{List, [], _∷_}
 use lib.ListN.{length, length-append}
@@ -12,6 +12,27 @@ use Rattle.ranges.specs.Agreement.{Splits, countOf}
 use Rattle.ranges.proofs.Lists.{trading-split}
 
 module _ (trades : ℕ → Bool) where
+  -- The count, for its loop: day a is looked at, and then the days after it; and none is left.
+  module _ (count a b : ℕ) where
+    count-day : a ≤ b → (t : Bool) → trades a ≡ t → countFrom trades count a (suc b - a) ≡ countFrom trades (oneMore t count) (a + 1) (suc b - (a + 1))
+    unfolding countFrom
+    count-day h t e =
+        let k : suc b - a ≡ suc (suc b - (a + 1)) = omega arith in
+        let one : suc a ≡ a + 1 = omega arith in
+        ap (countFrom trades count a) k ∙ ap₂ (λ (u : Bool) (i : ℕ). countFrom trades (oneMore u count) i (suc b - (a + 1))) e one
+
+    pub count-one : a ≤ b → trades a ≡ true → countFrom trades count a (suc b - a) ≡ countFrom trades (count + 1) (a + 1) (suc b - (a + 1))
+    count-one h e =
+        let one : suc count ≡ count + 1 = omega arith in
+        count-day h true e ∙ ap (λ (n : ℕ). countFrom trades n (a + 1) (suc b - (a + 1))) one
+
+    pub count-passed : a ≤ b → trades a ≡ false → countFrom trades count a (suc b - a) ≡ countFrom trades count (a + 1) (suc b - (a + 1))
+    count-passed h e = count-day h false e
+
+    pub count-done : b < a → countFrom trades count a (suc b - a) ≡ count
+    unfolding countFrom
+    count-done h = let e : suc b - a ≡ 0 = omega arith in ap (countFrom trades count a) e
+
   counted-from : (k count a : ℕ) → countFrom trades count a k ≡ count + length (filter trades (daysFrom a k))
   unfolding daysFrom filter countFrom
   counted-from zero count a = omega arith
@@ -32,8 +53,7 @@ module _ (trades : ℕ → Bool) where
 
   -- an empty part
   pub count-none : (a b : ℕ) → b < a → countTradingDays trades a b ≡ 0
-  unfolding countFrom
-  count-none a b h = let e : suc b - a ≡ 0 = omega arith in ap (countFrom trades 0 a) e
+  count-none = count-done 0
 
   pub splits-order : (a : ℕ) (splits : List ℕ) (b : ℕ) → Splits a splits b → a ≤ suc b
   splits-order a [] b h = h

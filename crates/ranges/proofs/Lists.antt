@@ -116,6 +116,24 @@ module _ (p : ℕ → Bool) where
   unfolding filter
   filter-next n l = refl
 
+  -- The list of a range: day a is looked at, and then the days after it; and none is left.
+  module _ (a b : ℕ) where
+    trading-day : a ≤ b → (t : Bool) → p a ≡ t → tradingDays p a b ≡ keep t a (tradingDays p (a + 1) b)
+    trading-day h t e =
+        let one : suc a ≡ a + 1 = omega arith in
+        ap (filter p) (days-next a b h)
+        ∙ filter-next a (days (suc a) b)
+        ∙ ap₂ (λ (u : Bool) (i : ℕ). keep u a (tradingDays p i b)) e one
+
+    pub trading-kept : a ≤ b → p a ≡ true → tradingDays p a b ≡ a ∷ tradingDays p (a + 1) b
+    trading-kept h e = trading-day h true e
+
+    pub trading-passed : a ≤ b → p a ≡ false → tradingDays p a b ≡ tradingDays p (a + 1) b
+    trading-passed h e = trading-day h false e
+
+    pub trading-none : b < a → tradingDays p a b ≡ []
+    trading-none h = ap (filter p) (days-none a b h) ∙ filter-none
+
   keep-append : (t : Bool) (n : ℕ) (x y : List ℕ) → keep t n (x ++ y) ≡ keep t n x ++ y
   keep-append true n x y = refl
   keep-append false n x y = refl

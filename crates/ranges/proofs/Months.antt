@@ -9,7 +9,7 @@ use native.Mathlib.Omega.{arith}
 use borrow.Author.Tests.{le-leb, lt-leb}
 use Rattle.ranges.specs.Ranges.{daysFrom, keep, filter, tradingDays, DateRange, joined, limitTo}
 use Rattle.ranges.specs.Agreement.{Tile, listOf}
-use Rattle.ranges.proofs.Lists.{days-none, filter-none, filter-append, trading-split}
+use Rattle.ranges.proofs.Lists.{filter-append, trading-none, trading-split}
 
 -- all of a list, or nothing
 abbrev whole : Bool → List ℕ → List ℕ
@@ -71,7 +71,7 @@ module _ (trades : ℕ → Bool) where
   tile-order a (r ∷ rs) b t = omega (arith, tile-order (suc (r .last)) rs b (t .2))
 
   pub joined-days : (a : ℕ) (rs : List DateRange) (b : ℕ) → Tile a rs b → joined (listOf trades) rs ≡ tradingDays trades a b
-  joined-days a [] b t = sym (ap (filter trades) (days-none a b (omega arith)) ∙ filter-none trades)
+  joined-days a [] b t = sym (trading-none trades a b (omega arith))
   joined-days a (r ∷ rs) b t =
       ap (λ (x : ℕ). tradingDays trades x (r .last) ++ joined (listOf trades) rs) (t .0)
       ∙ ap (λ (l : List ℕ). tradingDays trades a (r .last) ++ l) (joined-days (suc (r .last)) rs b (t .2))

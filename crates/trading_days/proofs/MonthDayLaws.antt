@@ -1,0 +1,44 @@
+-- The laws of the days of a month, and of the list of them in an array.
+-- Assumes nothing.
+use Prim.Native.Nat.{ℕ, suc, _+_, _-_, _≤_, _<_}
+use mathlib.Core.Path.{_≡_, sym, ap, _∙_}
+use mathlib.Core.Bool.{Bool, true, false}
+use mathlib.Core.List.{List, _++_, append-nil}
+use lib.ListN.{length, take, set}
+use lib.Seq.{take-suc-set, append-snoc}
+use native.Mathlib.Omega.{arith}
+use Rattle.gregorian.specs.Calendar.{lastDay, monthLength, isDate, dayNumber}
+use Rattle.gregorian.proofs.Laws.{days-on, is-date, date-by, number-range}
+use Rattle.ranges.specs.Ranges.{tradingDays}
+use Rattle.ranges.proofs.Lists.{trading-kept, trading-passed, trading-none}
+
+-- Day d of a month by the day number of its first.
+pub day-of-month : (y m d n : ℕ) → n ≡ dayNumber y m 1 → 1 ≤ d → n + d - 1 ≡ dayNumber y m d
+day-of-month y m d n e h =
+    let k : 1 + (d - 1) ≡ d = omega arith in
+    let f = sym (ap (dayNumber y m) k) in
+    omega (arith, days-on y m 1 (d - 1), f)
+
+-- It is a day of the years.
+pub month-in-years : (y m d : ℕ) → isDate y m 1 ≡ true → 1 ≤ d → d ≤ monthLength y m → (1 ≤ dayNumber y m d) × (dayNumber y m d ≤ lastDay)
+month-in-years y m d h l k =
+    let g = is-date y m 1 h in
+    let e = g .exists in
+    number-range y m d (date-by y m d (e .y-low, g .y-high) (e .m-low, e .m-high) (l, k))
+
+-- The first k days of the array, and then those from a to b that pass: day a is looked at; and none is left.
+module _ (p : ℕ → Bool) (l : List ℕ) (k a b : ℕ) where
+  pub day-kept : k < length l → a ≤ b → p a ≡ true → take k l ++ tradingDays p a b ≡ take (k + 1) (set l k a) ++ tradingDays p (a + 1) b
+  day-kept h o e =
+      let one : suc k ≡ k + 1 = omega arith in
+      let rest = tradingDays p (a + 1) b in
+      ap (λ (r : List ℕ). take k l ++ r) (trading-kept p a b o e)
+      ∙ sym (append-snoc (take k l) a rest)
+      ∙ ap (λ (r : List ℕ). r ++ rest) (sym (take-suc-set l k a h))
+      ∙ ap (λ (i : ℕ). take i (set l k a) ++ rest) one
+
+  pub day-passed : a ≤ b → p a ≡ false → take k l ++ tradingDays p a b ≡ take k l ++ tradingDays p (a + 1) b
+  day-passed o e = ap (λ (r : List ℕ). take k l ++ r) (trading-passed p a b o e)
+
+  pub days-done : b < a → take k l ++ tradingDays p a b ≡ take k l
+  days-done h = ap (λ (r : List ℕ). take k l ++ r) (trading-none p a b h) ∙ append-nil (take k l)

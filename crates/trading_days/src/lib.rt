@@ -1,0 +1,56 @@
+// The trading days of a range of days and of a month, as src/calendar.rs of the Rust finds them past its checks. Labels in brackets
+// are those of docs/SCOPE.md.
+ghost use mathlib.Core.Path.{_≡_};
+ghost use mathlib.Core.Bool.{true};
+ghost use Prim.Native.Nat.{_≤_};
+ghost use lib.ListN.{take};
+ghost use Rattle.gregorian.specs.Calendar.{lastDay, isDate};
+ghost use Rattle.markets.specs.Markets.{isTradingDay};
+ghost use Rattle.ranges.specs.Ranges.{countTradingDays};
+ghost use Rattle.trading_days.specs.Month.{monthList};
+use markets::is_trading_day;
+
+// How many days a month has at most.
+pub const LONGEST_MONTH: usize = 31;
+
+// The trading days of a month, by their numbers in it: the first count bytes, and zeros after them.
+pub struct MonthDays {
+    pub count: usize,
+    pub days: [u8; LONGEST_MONTH],
+}
+
+// [count]: from the first day to the last, both included; 0 if the last is before the first.
+pub fn count(market: u32, first: u32, last: u32) -> u32
+    requires { ⌜ (1 ≤ first) × (first ≤ lastDay) × (last ≤ lastDay) ⌝ }
+    ensures { λ r. ⌜ r ≡ countTradingDays (isTradingDay market) first last ⌝ }
+{
+    let mut count = 0;
+    let mut day = first;
+    while day <= last {
+        if is_trading_day(market, day) {
+            count += 1;
+        }
+        day += 1;
+    }
+    count
+}
+
+// [month-list]: each day of the month is asked for once.
+pub fn month_days(market: u32, year: u32, month: u32) -> MonthDays
+    requires { ⌜ isDate year month 1 ≡ true ⌝ }
+    ensures { λ r. ⌜ (take (r .count) (r .days) ≡ monthList market year month) × (r .count ≤ 31) ⌝ }
+{
+    let length = gregorian::days_in_month(year, month);
+    let first = gregorian::day_number(year, month, 1);
+    let mut days = [0; LONGEST_MONTH];
+    let mut count = 0;
+    let mut day = 1;
+    while day <= length {
+        if is_trading_day(market, first + day - 1) {
+            days[count] = day as u8;
+            count += 1;
+        }
+        day += 1;
+    }
+    MonthDays { count, days }
+}
