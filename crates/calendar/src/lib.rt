@@ -1,5 +1,7 @@
 // The calls of src/calendar.rs of the Rust, on numbers: a market code, and the year, month and day of a date. Labels in
 // brackets are those of docs/SCOPE.md.
+pub mod counts;
+
 ghost use mathlib.Core.Path.{_≡_};
 ghost use Prim.Native.Nat.{_≤_};
 ghost use Rattle.gregorian.specs.Calendar.{lastDay};

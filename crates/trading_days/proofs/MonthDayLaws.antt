@@ -1,11 +1,11 @@
--- The laws of the days of a month, and of the list of them in an array.
+-- The laws of the days of a month, of the list of them in an array, and of a buffer that it is written to.
 -- Assumes nothing.
 use Prim.Native.Nat.{ℕ, suc, _+_, _-_, _≤_, _<_}
 use mathlib.Core.Path.{_≡_, sym, ap, _∙_}
 use mathlib.Core.Bool.{Bool, true, false}
 use mathlib.Core.List.{List, _++_, append-nil}
-use lib.ListN.{length, take, set}
-use lib.Seq.{take-suc-set, append-snoc}
+use lib.ListN.{length, getD, take, drop, set}
+use lib.Seq.{take-suc, drop-cons, take-suc-set, append-snoc, set-at, length-take-le}
 use native.Mathlib.Omega.{arith}
 use Rattle.gregorian.specs.Calendar.{lastDay, monthLength, isDate, dayNumber}
 use Rattle.gregorian.proofs.Laws.{days-on, is-date, date-by, number-range}
@@ -42,3 +42,15 @@ module _ (p : ℕ → Bool) (l : List ℕ) (k a b : ℕ) where
 
   pub days-done : b < a → take k l ++ tradingDays p a b ≡ take k l
   days-done h = ap (λ (r : List ℕ). take k l ++ r) (trading-none p a b h) ∙ append-nil (take k l)
+
+-- One byte more is written to the start of a buffer.
+pub byte-more : (bytes buffer : List ℕ) (i : ℕ) → i < length bytes → i < length buffer
+    → set (take i bytes ++ drop i buffer) i (getD bytes i 0) ≡ take (i + 1) bytes ++ drop (i + 1) buffer
+byte-more bytes buffer i h k =
+    let one : suc i ≡ i + 1 = omega arith in
+    let rest = drop (suc i) buffer in
+    ap (λ (r : List ℕ). set (take i bytes ++ r) i (getD bytes i 0)) (drop-cons buffer i 0 k)
+    ∙ set-at (take i bytes) (getD buffer i 0) rest (getD bytes i 0) i (length-take-le i bytes (omega arith))
+    ∙ sym (append-snoc (take i bytes) (getD bytes i 0) rest)
+    ∙ ap (λ (r : List ℕ). r ++ rest) (sym (take-suc bytes i 0 h))
+    ∙ ap (λ (n : ℕ). take n bytes ++ drop n buffer) one

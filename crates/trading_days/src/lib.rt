@@ -2,8 +2,9 @@
 // are those of docs/SCOPE.md.
 ghost use mathlib.Core.Path.{_≡_};
 ghost use mathlib.Core.Bool.{true};
+ghost use mathlib.Core.List.{_++_};
 ghost use Prim.Native.Nat.{_≤_};
-ghost use lib.ListN.{take};
+ghost use lib.ListN.{length, take, drop};
 ghost use Rattle.gregorian.specs.Calendar.{lastDay, isDate};
 ghost use Rattle.markets.specs.Markets.{isTradingDay};
 ghost use Rattle.ranges.specs.Ranges.{countTradingDays};
@@ -53,4 +54,16 @@ pub fn month_days(market: u32, year: u32, month: u32) -> MonthDays
         day += 1;
     }
     MonthDays { count, days }
+}
+
+// Writes the first count bytes to the start of the buffer. The rest of it stays [error-writes-nothing].
+pub fn write(bytes: &[u8], count: usize, out: &mut [u8])
+    requires { ⌜ (count ≤ length (now bytes)) × (count ≤ length (now out)) ⌝ }
+    ensures { λ _. ⌜ now (out .exit) ≡ take count (now (bytes .entry)) ++ drop count (now (out .entry)) ⌝ }
+{
+    let mut i = 0;
+    while i < count {
+        out[i] = bytes[i];
+        i += 1;
+    }
 }
