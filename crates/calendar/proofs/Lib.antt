@@ -1,3 +1,4 @@
 pub mod CallLaws
 pub mod RangeLaws
 pub mod MonthLaws
+pub mod CountLaws
