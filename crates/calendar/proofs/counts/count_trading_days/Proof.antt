@@ -1,5 +1,6 @@
 -- `calendar::counts::count_trading_days` meets its contract: the days past the checks are those of dates, and an error stays.
 use mathlib.Core.Path.{_≡_, sym, _∙_}
+use native.Mathlib.Omega.{arith}
 use borrow.Author.Needs.{needs}
 use Rattle.calendar.specs.declared.DayResult.{DayResult}
 use Rattle.calendar.specs.Calls.{checkedDay}
@@ -26,7 +27,7 @@ count-requires c κs =
     let s = c .before .before in
     let a = checked-in-years _ _ _ _ _ (sym (start (s .before .before .before .before))) in
     let b = checked-in-years _ _ _ _ _ (sym (end s)) in
-    (a .0, a .1, b .1)
+    omega (arith, a, b)
 
 returns-2 : tie.Need-returns-2
 returns-2 c =

@@ -8,6 +8,7 @@ use lib.Seq.{length-take-le}
 use native.Mathlib.Omega.{arith}
 use borrow.Author.Tests.{not-true, not-false}
 use borrow.Author.Needs.{needs}
+use denote.Ref.{now}
 use Rattle.gregorian.specs.Calendar.{isDate}
 use Rattle.calendar.specs.Calls.{isSupported}
 use Rattle.calendar.proofs.CountLaws.{first-is-date, month-error-8, month-error-1, month-error-2, month-error-9, month-written}
@@ -19,10 +20,10 @@ is-market : (c : tie.Else1) → c .before .before .before .before .args .market 
 is-market c = omega arith
 
 is-supported : (c : tie.Else2) → isSupported (c .before .before .before .before .before .args .year) ≡ true
-is-supported c = sym (c .before .before .before .is-supported .ensures) ∙ not-false _ (c .if2 .left)
+is-supported c = let s = c .before .before .before in sym (s .is-supported .ensures) ∙ not-false (s .is-supported .result) (c .if2 .left)
 
 is-month : (c : tie.Else3) → (let m = c .before .before .before .before .before .before .args .month in (leb 1 m && leb m 12) ≡ true)
-is-month c = sym (c .before .before .before .is-month .ensures) ∙ not-false _ (c .if3 .left)
+is-month c = let s = c .before .before .before in sym (s .is-month .ensures) ∙ not-false (s .is-month .result) (c .if3 .left)
 
 returns : tie.Need-returns
 returns c = month-error-8 _ _ _ _ (omega arith)
@@ -51,7 +52,9 @@ returns-4 : tie.Need-returns-4
 returns-4 c =
     let s = c .before .before in
     let e = s .before in
-    month-error-9 _ _ _ _ (is-market (e .before .before)) (is-supported (e .before)) (is-month e) _ _ (s .month-days .ensures .0) (listed s) (omega arith)
+    let out = now (e .before .before .before .before .before .before .args .out) in
+    month-error-9 _ _ _ out (is-market (e .before .before)) (is-supported (e .before)) (is-month e) _ (s .month-days .result .count)
+    (s .month-days .ensures .0) (listed s) (omega arith)
 
 write-requires : tie.Need-write-requires
 write-requires c κs = let e = c .before .before in (in-list (e .before .before), omega (arith, e .if4))
