@@ -8,12 +8,14 @@ use Rattle.schedule.specs.declared.SessionResult.{SessionResult}
 use Rattle.schedule.specs.declared.HoursResult.{HoursResult}
 use Rattle.schedule.specs.Schedule.{session}
 use Rattle.error.specs.declared.BoolResult.{BoolResult}
+use Rattle.error.specs.declared.CountResult.{CountResult}
 use Rattle.error.specs.declared.TimeResult.{TimeResult}
-use Rattle.error.specs.Errors.{errorNumber, errorDate}
+use Rattle.error.specs.Errors.{errorNumber, errorDate, errorCount}
 use Rattle.calendar.specs.declared.TradingDayResult.{TradingDayResult}
 use Rattle.answers.specs.declared.OptionalDate.{OptionalDate}
 use Rattle.answers.specs.declared.BoolAnswer.{BoolAnswer}
 use Rattle.answers.specs.declared.neighbours.TradingDayAnswer.{TradingDayAnswer}
+use Rattle.answers.specs.declared.counts.CountAnswer.{CountAnswer}
 use Rattle.answers.specs.declared.trading_hours.TimeAnswer.{TimeAnswer}
 use Rattle.answers.specs.declared.trading_hours.SessionAnswer.{SessionAnswer}
 use Rattle.answers.specs.declared.trading_hours.HoursAnswer.{HoursAnswer}
@@ -39,6 +41,12 @@ boolAnswer (BoolResult.Err e) = record { error = errorNumber e; value = 0; date 
 unfoldable pub tradingDayAnswer : TradingDayResult → TradingDayAnswer
 tradingDayAnswer (TradingDayResult.Ok d) = record { error = 0; date = d .date; distance = d .distance; outside = flagOf (d .outside) }
 tradingDayAnswer (TradingDayResult.Err e) = record { error = errorNumber e; date = errorDate e; distance = 0; outside = 0 }
+
+-- Without an error, the number; an error has its number, the number of bytes that error 9 returns, and the date that error 1 does. Every
+-- other field is 0.
+unfoldable pub countAnswer : CountResult → CountAnswer
+countAnswer (CountResult.Ok n) = record { error = 0; count = n; date = noDate }
+countAnswer (CountResult.Err e) = record { error = errorNumber e; count = errorCount e; date = errorDate e }
 
 -- Without an error, the value; an error has its number, and every other field is 0.
 unfoldable pub timeAnswer : TimeResult → TimeAnswer

@@ -1,4 +1,5 @@
 // The C structs of the answers, and how each result becomes one. Labels in brackets are those of docs/SCOPE.md.
+pub mod counts;
 pub mod neighbours;
 pub mod records;
 pub mod trading_hours;

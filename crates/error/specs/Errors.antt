@@ -31,7 +31,7 @@ errorDate InvalidSession = noDate
 errorDate InvalidTime = noDate
 
 -- the number of bytes that is returned with error 9; 0 with the others
-abbrev pub errorCount : CalendarError → ℕ
+unfoldable pub errorCount : CalendarError → ℕ
 errorCount (BufferTooSmall needed) = needed
 errorCount UnknownMarket = 0
 errorCount InvalidDate = 0

@@ -1,6 +1,6 @@
 // The errors of the calls, as src/error.rs of the Rust. Labels in brackets are those of docs/SCOPE.md.
 ghost use mathlib.Core.Path.{_≡_};
-ghost use Rattle.error.specs.Errors.{errorNumber, errorDate};
+ghost use Rattle.error.specs.Errors.{errorNumber, errorDate, errorCount};
 use gregorian::Date;
 use gregorian::NO_DATE;
 
@@ -65,5 +65,22 @@ pub fn date(e: CalendarError) -> Date
         CalendarError::BufferTooSmall(_) => NO_DATE,
         CalendarError::InvalidSession => NO_DATE,
         CalendarError::InvalidTime => NO_DATE,
+    }
+}
+
+// [errors]: the number of bytes returned with error 9; 0 with the others [reading-nothing].
+pub fn count(e: CalendarError) -> u32
+    ensures { λ r. ⌜ r ≡ errorCount e ⌝ }
+{
+    match e {
+        CalendarError::UnknownMarket => 0,
+        CalendarError::InvalidDate => 0,
+        CalendarError::TimeOutOfRange => 0,
+        CalendarError::DateOutOfRange(_) => 0,
+        CalendarError::InvalidDateCalculation => 0,
+        CalendarError::NoTradingDayFound => 0,
+        CalendarError::BufferTooSmall(needed) => needed,
+        CalendarError::InvalidSession => 0,
+        CalendarError::InvalidTime => 0,
     }
 }

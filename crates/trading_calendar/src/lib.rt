@@ -1,5 +1,6 @@
 // The calls that a host in C or Rust makes. Every call takes every number, so none has a `requires`. Labels in brackets are those of docs/SCOPE.md.
 pub mod neighbours;
+pub mod ranges;
 pub mod trading_hours;
 
 ghost use mathlib.Core.Path.{_≡_};
