@@ -13,7 +13,7 @@ use Rattle.ranges.specs.Ranges.{DateRange, countTradingDays, parts, sumOf}
 use Rattle.ranges.specs.Agreement.{Splits, countOf}
 use Rattle.ranges.proofs.Counts.{count-none, splits-order}
 use Rattle.error.specs.declared.CountResult.{CountResult}
-use Rattle.calendar.proofs.RangeLaws.{count-of-dates}
+use Rattle.calendar.proofs.CountLaws.{count-of-dates}
 use Rattle.agreement.specs.CallsAgree.{isDateOf, dayBefore, countCall, Part, partsOf, SplitDates}
 use Rattle.agreement.proofs.Dates.{low, high, bounds, year-from, year-to}
 

@@ -23,8 +23,9 @@ use Rattle.ranges.proofs.Months.{joined-days}
 use Rattle.error.specs.declared.CountResult.{CountResult}
 use Rattle.calendar.specs.Calls.{isSupported}
 use Rattle.trading_days.specs.Month.{monthList}
+use Rattle.trading_days.proofs.MonthDayLaws.{month-list}
 use Rattle.calendar.specs.RangeCalls.{finalBuffer}
-use Rattle.calendar.proofs.MonthLaws.{month-list, month-of-years, written-ok, written-error, final-start}
+use Rattle.calendar.proofs.MonthLaws.{month-of-years, written-ok, written-error, final-start}
 use Rattle.agreement.proofs.Dates.{supported-years}
 use Rattle.agreement.specs.CallsAgree.{Month, monthsFrom, Writes, Reads, datesOf, limitToRange}
 

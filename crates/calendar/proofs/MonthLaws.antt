@@ -1,48 +1,26 @@
--- The laws of the list of a month, and of a buffer that is written to.
+-- The laws of the call for the list of a month, and of a buffer that is written to.
 -- Assumes nothing.
-use Prim.Native.Nat.{ℕ, zero, suc, _+_, _-_, _≤_, _<_}
+use Prim.Native.Nat.{ℕ, _≤_, _<_}
 use mathlib.Core.Path.{_≡_, refl, sym, ap, _∙_}
-use mathlib.Core.Bool.{Bool, true, false, cond}
-use mathlib.Core.List.{List, [], _∷_, _++_, map}
-use lib.Dec.{ltb}
+use mathlib.Core.Bool.{Bool, true, false, cond, not, _&&_}
+use mathlib.Core.List.{List, _++_}
+use lib.Dec.{ltb, leb, lit≤}
 use lib.ListN.{length, take, drop, length-append, length-drop}
+use lib.Seq.{take-at}
 use native.Mathlib.Omega.{arith}
-use borrow.Author.Tests.{ltb-false, lt-ltb, le-ltb, le-leb}
-use Rattle.gregorian.specs.Calendar.{monthLength, dayNumber}
-use Rattle.gregorian.proofs.Laws.{days-on}
-use Rattle.markets.specs.Markets.{isTradingDay}
-use Rattle.ranges.specs.Ranges.{daysFrom, days, filter, tradingDays}
-use Rattle.ranges.proofs.Lists.{filter-map}
+use borrow.Author.Tests.{lt-ltb, le-ltb, leb-true, le-leb}
+use Rattle.gregorian.specs.declared.Date.{Date}
+use Rattle.gregorian.specs.Calendar.{isDate}
+use Rattle.gregorian.proofs.Laws.{date-by, month-low}
+use Rattle.gregorian.proofs.Tests.{and-left, and-right}
 use Rattle.error.specs.declared.CountResult.{CountResult}
-use Rattle.error.specs.declared.CalendarError.the-variants.{BufferTooSmall}
+use Rattle.error.specs.declared.CalendarError.{CalendarError}
+use Rattle.error.specs.declared.CalendarError.the-variants.{UnknownMarket, DateOutOfRange, InvalidDateCalculation, BufferTooSmall}
+use Rattle.trading_days.specs.Month.{monthList}
 use Rattle.calendar.specs.Calls.{isSupported}
-use Rattle.calendar.specs.RangeCalls.{monthList, writtenResult, finalBuffer, tradingDaysInMonthResult}
+use Rattle.calendar.specs.RangeCalls.{monthErrorDate, writtenResult, finalBuffer, tradingDaysInMonthResult, tradingDaysInMonthBuffer}
 
--- The days of a month follow each other, and so the list is that of the trading days from its first day to its last.
-month-days : (y m k d : ℕ) → map (dayNumber y m) (daysFrom d k) ≡ daysFrom (dayNumber y m d) k
-unfolding daysFrom
-month-days y m zero d = refl
-month-days y m (suc k) d =
-    let next : dayNumber y m (suc d) ≡ suc (dayNumber y m d) = ap (dayNumber y m) (omega arith) ∙ days-on y m d 1 ∙ omega arith in
-    ap (λ (l : List ℕ). dayNumber y m d ∷ l) (month-days y m k (suc d) ∙ ap (λ (n : ℕ). daysFrom n k) next)
-
-as-many : (y m n : ℕ) → suc n - 1 ≡ suc (dayNumber y m n) - dayNumber y m 1
-unfolding dayNumber
-as-many y m n = omega arith
-
-pub month-list : (market y m : ℕ) → map (dayNumber y m) (monthList market y m) ≡ tradingDays (isTradingDay market) (dayNumber y m 1) (dayNumber y m (monthLength y m))
-unfolding monthList
-month-list market y m =
-    let n = monthLength y m in
-    sym (filter-map (isTradingDay market) (dayNumber y m) (days 1 n))
-    ∙ ap (filter (isTradingDay market)) (month-days y m (suc n - 1) 1)
-    ∙ ap (λ (k : ℕ). filter (isTradingDay market) (daysFrom (dayNumber y m 1) k)) (as-many y m n)
-
--- In a month of 2020 to 2030 the list is written into the buffer, if it fits.
-pub month-of-years : (market year month : ℕ) (buffer : List ℕ) → market ≤ 4 → isSupported year ≡ true → 1 ≤ month → month ≤ 12
-    → tradingDaysInMonthResult market year month buffer ≡ writtenResult (monthList market year month) buffer
-unfolding tradingDaysInMonthResult
-month-of-years market year month buffer h s l u = simp (le-ltb 4 market h, s, le-leb 1 month l, le-leb month 12 u)
+-- ---- bytes and a buffer
 
 pub written-ok : (bytes buffer : List ℕ) → length bytes ≤ length buffer → writtenResult bytes buffer ≡ CountResult.Ok (length bytes)
 unfolding writtenResult
@@ -52,23 +30,82 @@ pub written-error : (bytes buffer : List ℕ) → length buffer < length bytes �
 unfolding writtenResult
 written-error bytes buffer h = simp (lt-ltb (length buffer) (length bytes) h)
 
--- Without an error the bytes fit.
-pub written-fits : (bytes buffer : List ℕ) (n : ℕ) → writtenResult bytes buffer ≡ CountResult.Ok n → (n ≡ length bytes) × (length bytes ≤ length buffer)
-unfolding writtenResult
-written-fits bytes buffer n e = by (ltb (length buffer) (length bytes)) refl e
-  where
-    by : (t : Bool) → ltb (length buffer) (length bytes) ≡ t → cond t (CountResult.Err (BufferTooSmall (length bytes))) (CountResult.Ok (length bytes)) ≡ CountResult.Ok n → (n ≡ length bytes) × (length bytes ≤ length buffer)
-    by true p q = let never : _≡_ {A = ℕ} 0 1 = cc in (cc, omega arith)
-    by false p q = (cc, ltb-false (length buffer) (length bytes) p)
-
 -- The buffer keeps its length, and starts with the bytes.
 pub final-length : (bytes buffer : List ℕ) (n : ℕ) → length bytes ≤ length buffer → length (finalBuffer (CountResult.Ok n) bytes buffer) ≡ length buffer
 final-length bytes buffer n h =
     omega (arith, length-append bytes (drop (length bytes) buffer), length-drop (length bytes) buffer)
 
-take-all : (l r : List ℕ) → take (length l) (l ++ r) ≡ l
-take-all [] r = refl
-take-all (x ∷ l) r = ap (λ (t : List ℕ). x ∷ t) (take-all l r)
-
 pub final-start : (bytes buffer : List ℕ) (n : ℕ) → take (length bytes) (finalBuffer (CountResult.Ok n) bytes buffer) ≡ bytes
-final-start bytes buffer n = take-all bytes (drop (length bytes) buffer)
+final-start bytes buffer n = take-at bytes (drop (length bytes) buffer) (length bytes) refl
+
+-- ---- the call
+
+-- The first of the month is a date where errors 1 and 2 do not apply.
+pub first-is-date : (year month : ℕ) → isSupported year ≡ true → (leb 1 month && leb month 12) ≡ true → isDate year month 1 ≡ true
+unfolding isSupported
+first-is-date year month s m =
+    let low = leb-true 2020 year (and-left (leb 2020 year) _ s) in
+    let high = leb-true year 2030 (and-right (leb 2020 year) _ s) in
+    let from = leb-true 1 month (and-left (leb 1 month) _ m) in
+    let to = leb-true month 12 (and-right (leb 1 month) _ m) in
+    date-by year month 1 (omega arith, omega arith) (from, to) (lit≤ tt, omega (arith, month-low year month from to))
+
+module _ (market year month : ℕ) (buffer : List ℕ) where
+  -- what the call has to answer, and what the buffer has to hold at the end
+  abbrev pub MonthAnswer : CountResult → List ℕ → Type 0
+  MonthAnswer r final =
+      (r ≡ tradingDaysInMonthResult market year month buffer) × (final ≡ tradingDaysInMonthBuffer market year month buffer)
+
+  -- the answer by what the tests of errors 8, 1 and 2 say
+  abbrev by-checks : Bool → Bool → Bool → CountResult
+  by-checks unknown supported isMonth =
+      cond unknown (CountResult.Err UnknownMarket)
+      (cond (not supported) (CountResult.Err (DateOutOfRange (monthErrorDate year month)))
+      (cond (not isMonth) (CountResult.Err InvalidDateCalculation)
+      (writtenResult (monthList market year month) buffer)))
+
+  by-tests : (u s m : Bool) → ltb 4 market ≡ u → isSupported year ≡ s → (leb 1 month && leb month 12) ≡ m
+      → tradingDaysInMonthResult market year month buffer ≡ by-checks u s m
+  unfolding tradingDaysInMonthResult
+  by-tests u s m p q r = λ j. by-checks (p j) (q j) (r j)
+
+  -- With an error the buffer stays.
+  stays : (e : CalendarError) → CountResult.Err e ≡ tradingDaysInMonthResult market year month buffer → MonthAnswer (CountResult.Err e) buffer
+  stays e q = (q, ap (λ (r : CountResult). finalBuffer r (monthList market year month) buffer) q)
+
+  pub month-error-8 : 4 < market → MonthAnswer (CountResult.Err UnknownMarket) buffer
+  month-error-8 h = stays UnknownMarket (sym (by-tests true _ _ (lt-ltb 4 market h) refl refl))
+
+  module _ (h : market ≤ 4) where
+    pub month-error-1 : (d : Date) → isSupported year ≡ false → d ≡ monthErrorDate year month → MonthAnswer (CountResult.Err (DateOutOfRange d)) buffer
+    month-error-1 d s e =
+        stays (DateOutOfRange d)
+        (ap (λ (t : Date). CountResult.Err (DateOutOfRange t)) e ∙ sym (by-tests false false _ (le-ltb 4 market h) s refl))
+
+    module _ (s : isSupported year ≡ true) where
+      pub month-error-2 : (leb 1 month && leb month 12) ≡ false → MonthAnswer (CountResult.Err InvalidDateCalculation) buffer
+      month-error-2 m = stays InvalidDateCalculation (sym (by-tests false true false (le-ltb 4 market h) s m))
+
+      module _ (m : (leb 1 month && leb month 12) ≡ true) (bytes : List ℕ) (n : ℕ) (b : bytes ≡ monthList market year month) (l : length bytes ≡ n) where
+        past-tests : tradingDaysInMonthResult market year month buffer ≡ writtenResult bytes buffer
+        past-tests = by-tests false true true (le-ltb 4 market h) s m ∙ ap (λ (r : List ℕ). writtenResult r buffer) (sym b)
+
+        pub month-error-9 : length buffer < n → MonthAnswer (CountResult.Err (BufferTooSmall n)) buffer
+        month-error-9 k =
+            stays (BufferTooSmall n) (ap (λ (i : ℕ). CountResult.Err (BufferTooSmall i)) (sym l) ∙ sym (past-tests ∙ written-error bytes buffer (omega arith)))
+
+        pub month-written : (final : List ℕ) → n ≤ length buffer → final ≡ bytes ++ drop n buffer → MonthAnswer (CountResult.Ok n) final
+        month-written final k f =
+            let q = ap CountResult.Ok (sym l) ∙ sym (past-tests ∙ written-ok bytes buffer (omega arith)) in (
+              q,
+              f
+                  ∙ ap (λ (i : ℕ). bytes ++ drop i buffer) (sym l)
+                  ∙ ap (λ (r : List ℕ). r ++ drop (length r) buffer) b
+                  ∙ ap (λ (r : CountResult). finalBuffer r (monthList market year month) buffer) q,
+            )
+
+-- In a month of 2020 to 2030 the list is written into the buffer, if it fits.
+pub month-of-years : (market year month : ℕ) (buffer : List ℕ) → market ≤ 4 → isSupported year ≡ true → 1 ≤ month → month ≤ 12
+    → tradingDaysInMonthResult market year month buffer ≡ writtenResult (monthList market year month) buffer
+month-of-years market year month buffer h s l u =
+    by-tests market year month buffer false true true (le-ltb 4 market h) s (simp (le-leb 1 month l, le-leb month 12 u))

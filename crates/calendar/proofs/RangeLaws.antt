@@ -1,4 +1,4 @@
--- The laws of the answers of next, previous and the count.
+-- The laws of the answers of next and previous.
 -- Assumes nothing.
 use Prim.Native.Nat.{ℕ, _-_, _≤_, _<_}
 use mathlib.Core.Path.{_≡_, ap, _∙_}
@@ -6,13 +6,10 @@ use mathlib.Core.Bool.{true}
 use borrow.Author.Tests.{lt-ltb, le-ltb}
 use Rattle.gregorian.specs.Calendar.{isDate, dayNumber}
 use Rattle.utils.specs.declared.OptionalDay.{OptionalDay}
-use Rattle.markets.specs.Markets.{isTradingDay}
-use Rattle.ranges.specs.Ranges.{countTradingDays}
-use Rattle.error.specs.declared.CountResult.{CountResult}
 use Rattle.calendar.specs.declared.DayResult.{DayResult}
 use Rattle.calendar.specs.declared.TradingDayResult.{TradingDayResult}
 use Rattle.calendar.specs.Calls.{checkedDay}
-use Rattle.calendar.specs.RangeCalls.{distanceOf, tradingDayResult, neighbourResult, countTradingDaysResult}
+use Rattle.calendar.specs.RangeCalls.{distanceOf, tradingDayResult, neighbourResult}
 use Rattle.calendar.proofs.CallLaws.{past-ok, checked}
 
 -- The distance to a later day, and to an earlier one.
@@ -32,11 +29,7 @@ pub neighbour-is : (neighbour : ℕ → OptionalDay) (market year month day n : 
 neighbour-is neighbour market year month day n o r q e f =
     past-ok TradingDayResult.Err (λ n. tradingDayResult year n (neighbour n)) _ n r q (f ∙ ap (tradingDayResult year n) e)
 
--- What a call answers where it gives no error of the checks.
+-- What a call answers on a date.
 pub neighbour-of-date : (neighbour : ℕ → OptionalDay) (market year month day : ℕ) → market ≤ 4 → isDate year month day ≡ true
     → neighbourResult neighbour market year month day ≡ tradingDayResult year (dayNumber year month day) (neighbour (dayNumber year month day))
 neighbour-of-date neighbour market year month day h d = simp (checked market year month day h d)
-
-pub count-of-dates : (market y m d y′ m′ d′ : ℕ) → market ≤ 4 → isDate y m d ≡ true → isDate y′ m′ d′ ≡ true → 2020 ≤ y → y′ ≤ 2030
-    → countTradingDaysResult market y m d y′ m′ d′ ≡ CountResult.Ok (countTradingDays (isTradingDay market) (dayNumber y m d) (dayNumber y′ m′ d′))
-count-of-dates market y m d y′ m′ d′ h p q l u = simp (checked market y m d h p, checked market y′ m′ d′ h q, le-ltb y 2020 l, le-ltb 2030 y′ u)

@@ -1,16 +1,18 @@
 -- The laws of the days of a month, of the list of them in an array, and of a buffer that it is written to.
 -- Assumes nothing.
-use Prim.Native.Nat.{ℕ, suc, _+_, _-_, _≤_, _<_}
-use mathlib.Core.Path.{_≡_, sym, ap, _∙_}
+use Prim.Native.Nat.{ℕ, zero, suc, _+_, _-_, _≤_, _<_}
+use mathlib.Core.Path.{_≡_, refl, sym, ap, _∙_}
 use mathlib.Core.Bool.{Bool, true, false}
-use mathlib.Core.List.{List, _++_, append-nil}
+use mathlib.Core.List.{List, _∷_, _++_, append-nil, map}
 use lib.ListN.{length, getD, take, drop, set}
 use lib.Seq.{take-suc, drop-cons, take-suc-set, append-snoc, set-at, length-take-le}
 use native.Mathlib.Omega.{arith}
 use Rattle.gregorian.specs.Calendar.{lastDay, monthLength, isDate, dayNumber}
 use Rattle.gregorian.proofs.Laws.{days-on, is-date, date-by, number-range}
-use Rattle.ranges.specs.Ranges.{tradingDays}
-use Rattle.ranges.proofs.Lists.{trading-kept, trading-passed, trading-none}
+use Rattle.markets.specs.Markets.{isTradingDay}
+use Rattle.ranges.specs.Ranges.{daysFrom, days, filter, tradingDays}
+use Rattle.ranges.proofs.Lists.{filter-map, trading-kept, trading-passed, trading-none}
+use Rattle.trading_days.specs.Month.{monthList}
 
 -- Day d of a month by the day number of its first.
 pub day-of-month : (y m d n : ℕ) → n ≡ dayNumber y m 1 → 1 ≤ d → n + d - 1 ≡ dayNumber y m d
@@ -54,3 +56,23 @@ byte-more bytes buffer i h k =
     ∙ sym (append-snoc (take i bytes) (getD bytes i 0) rest)
     ∙ ap (λ (r : List ℕ). r ++ rest) (sym (take-suc bytes i 0 h))
     ∙ ap (λ (n : ℕ). take n bytes ++ drop n buffer) one
+
+-- The days of a month follow each other, and so the list is that of the trading days from its first day to its last.
+month-days : (y m k d : ℕ) → map (dayNumber y m) (daysFrom d k) ≡ daysFrom (dayNumber y m d) k
+unfolding daysFrom
+month-days y m zero d = refl
+month-days y m (suc k) d =
+    let next : dayNumber y m (suc d) ≡ suc (dayNumber y m d) = ap (dayNumber y m) (omega arith) ∙ days-on y m d 1 ∙ omega arith in
+    ap (λ (l : List ℕ). dayNumber y m d ∷ l) (month-days y m k (suc d) ∙ ap (λ (n : ℕ). daysFrom n k) next)
+
+as-many : (y m n : ℕ) → suc n - 1 ≡ suc (dayNumber y m n) - dayNumber y m 1
+unfolding dayNumber
+as-many y m n = omega arith
+
+pub month-list : (market y m : ℕ) → map (dayNumber y m) (monthList market y m) ≡ tradingDays (isTradingDay market) (dayNumber y m 1) (dayNumber y m (monthLength y m))
+unfolding monthList
+month-list market y m =
+    let n = monthLength y m in
+    sym (filter-map (isTradingDay market) (dayNumber y m) (days 1 n))
+    ∙ ap (filter (isTradingDay market)) (month-days y m (suc n - 1) 1)
+    ∙ ap (λ (k : ℕ). filter (isTradingDay market) (daysFrom (dayNumber y m 1) k)) (as-many y m n)
