@@ -11,12 +11,14 @@ use Rattle.ranges.specs.Ranges.{Every, countFrom, countTradingDays}
 use Rattle.error.specs.declared.BoolResult.{BoolResult}
 use Rattle.error.specs.declared.CountResult.{CountResult}
 use Rattle.error.specs.declared.CalendarError.the-variants.{DateOutOfRange}
+use Rattle.error.specs.Errors.{errorNumber, errorDate, errorCount}
 use Rattle.calendar.specs.declared.TradingDayResult.{TradingDayResult}
 use Rattle.calendar.specs.Calls.{isSupported, tryDay, checkedDay, supportedDay}
 use Rattle.calendar.specs.RangeCalls.{distanceOf}
 use Rattle.answers.specs.declared.BoolAnswer.{BoolAnswer}
 use Rattle.answers.specs.declared.neighbours.TradingDayAnswer.{TradingDayAnswer}
-use Rattle.answers.specs.Answers.{flagOf, boolAnswer, tradingDayAnswer}
+use Rattle.answers.specs.declared.counts.CountAnswer.{CountAnswer}
+use Rattle.answers.specs.Answers.{flagOf, boolAnswer, tradingDayAnswer, countAnswer}
 use Rattle.examples.specs.Examples.{Example, CalculateEaster, IsTradingDay, IsHoliday, NextTradingDay, CountTradingDays, Holds, examples, ExamplesHold}
 use Rattle.examples.proofs.ClosedRules.{holidayRule, tradingRule, closedOptional, closedNextResult}
 
@@ -29,12 +31,13 @@ boolBy market t rule =
 abbrev nextBy : ℕ → Date → (ℕ → TradingDayResult) → TradingDayAnswer
 nextBy market t next = tradingDayAnswer (tryDay (checkedDay market (t .year) (t .month) (t .day)) TradingDayResult.Err next)
 
-abbrev countBy : ℕ → Date → Date → (ℕ → Bool) → CountResult
+abbrev countBy : ℕ → Date → Date → (ℕ → Bool) → CountAnswer
 countBy market s t trades =
-    tryDay (checkedDay market (s .year) (s .month) (s .day)) CountResult.Err
+    countAnswer
+    (tryDay (checkedDay market (s .year) (s .month) (s .day)) CountResult.Err
     (λ start. tryDay (checkedDay market (t .year) (t .month) (t .day)) CountResult.Err
     (λ end. cond (ltb (s .year) 2020 || ltb 2030 (t .year)) (CountResult.Err (DateOutOfRange s))
-    (CountResult.Ok (countTradingDays trades start end))))
+    (CountResult.Ok (countTradingDays trades start end)))))
 
 -- ---- the test
 
@@ -60,7 +63,7 @@ all-hold [] q = tt
 all-hold (e ∷ rows) q = (holds e cc, all-hold rows cc)
 
 all-computed : map computed examples ≡ examples
-unfolding computed holidayRule tradingRule closedOptional closedNextResult countFrom distanceOf isSupported checkedDay supportedDay flagOf boolAnswer tradingDayAnswer
+unfolding computed holidayRule tradingRule closedOptional closedNextResult countFrom distanceOf isSupported checkedDay supportedDay flagOf boolAnswer tradingDayAnswer countAnswer errorNumber errorDate errorCount
 all-computed = refl
 
 pub examples-hold : ExamplesHold

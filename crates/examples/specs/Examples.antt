@@ -6,14 +6,13 @@ use Rattle.gregorian.specs.declared.Date.{Date}
 use Rattle.gregorian.specs.Calendar.{date, noDate}
 use Rattle.utils.specs.Easter.{calculateEaster}
 use Rattle.ranges.specs.Ranges.{Every}
-use Rattle.error.specs.declared.CountResult.{CountResult}
-use Rattle.error.specs.declared.CalendarError.the-variants.{DateOutOfRange}
 use Rattle.calendar.specs.Calls.{isTradingDayResult, isHolidayResult}
 use Rattle.calendar.specs.RangeCalls.{nextTradingDayResult, countTradingDaysResult}
 use Rattle.answers.specs.declared.OptionalDate.{OptionalDate}
 use Rattle.answers.specs.declared.BoolAnswer.{BoolAnswer}
 use Rattle.answers.specs.declared.neighbours.TradingDayAnswer.{TradingDayAnswer}
-use Rattle.answers.specs.Answers.{optionalDate, boolAnswer, tradingDayAnswer}
+use Rattle.answers.specs.declared.counts.CountAnswer.{CountAnswer}
+use Rattle.answers.specs.Answers.{optionalDate, boolAnswer, tradingDayAnswer, countAnswer}
 
 -- A call on a market's code, or on a year, and dates; last its answer.
 pub data Example : Type 0 where
@@ -21,7 +20,7 @@ pub data Example : Type 0 where
   IsTradingDay : ℕ → Date → BoolAnswer → Example
   IsHoliday : ℕ → Date → BoolAnswer → Example
   NextTradingDay : ℕ → Date → TradingDayAnswer → Example
-  CountTradingDays : ℕ → Date → Date → CountResult → Example
+  CountTradingDays : ℕ → Date → Date → CountAnswer → Example
 
 -- The answer is the one of the definition that the contract of the call cites.
 abbrev pub Holds : Example → Type 0
@@ -30,7 +29,7 @@ Holds (IsTradingDay market t answer) = boolAnswer (isTradingDayResult market (t 
 Holds (IsHoliday market t answer) = boolAnswer (isHolidayResult market (t .year) (t .month) (t .day)) ≡ answer
 Holds (NextTradingDay market t answer) = tradingDayAnswer (nextTradingDayResult market (t .year) (t .month) (t .day)) ≡ answer
 Holds (CountTradingDays market s t answer) =
-    countTradingDaysResult market (s .year) (s .month) (s .day) (t .year) (t .month) (t .day) ≡ answer
+    countAnswer (countTradingDaysResult market (s .year) (s .month) (s .day) (t .year) (t .month) (t .day)) ≡ answer
 
 -- the codes of [markets]
 abbrev pub nyse : ℕ
@@ -58,6 +57,13 @@ isNo = record { error = 0; value = 0; date = noDate }
 abbrev pub inside : Date → ℕ → TradingDayAnswer
 inside t distance = record { error = 0; date = t; distance = distance; outside = 0 }
 
+abbrev pub counted : ℕ → CountAnswer
+counted n = record { error = 0; count = n; date = noDate }
+
+-- error 1 with the date that it returns
+abbrev pub outOfRange : Date → CountAnswer
+outOfRange t = record { error = 1; count = 0; date = t }
+
 -- a row that names no market, for each of them
 abbrev pub forEachMarket : (ℕ → Example) → List Example
 forEachMarket row = map row (0 ∷ 1 ∷ 2 ∷ 3 ∷ 4 ∷ [])
@@ -75,9 +81,9 @@ examples =
     ∷ IsHoliday nyse (date 2022 1 3) isYes
     ∷ IsTradingDay lse (date 2021 12 28) isNo
     ∷ IsTradingDay lse (date 2021 12 29) isYes
-    ∷ CountTradingDays nyse (date 2025 1 1) (date 2025 1 31) (CountResult.Ok 21)
-    ∷ forEachMarket (λ market. CountTradingDays market (date 2031 1 1) (date 2030 12 31) (CountResult.Ok 0))
-    ++ forEachMarket (λ market. CountTradingDays market (date 2031 1 1) (date 2031 1 1) (CountResult.Err (DateOutOfRange (date 2031 1 1))))
+    ∷ CountTradingDays nyse (date 2025 1 1) (date 2025 1 31) (counted 21)
+    ∷ forEachMarket (λ market. CountTradingDays market (date 2031 1 1) (date 2030 12 31) (counted 0))
+    ++ forEachMarket (λ market. CountTradingDays market (date 2031 1 1) (date 2031 1 1) (outOfRange (date 2031 1 1)))
 
 -- every row of the table holds
 abbrev pub ExamplesHold : Type 0
