@@ -1,23 +1,20 @@
 -- The dates of a range, and the days around it.
 -- Assumes nothing.
 use Prim.Native.Nat.{ℕ, zero, suc, _+_, _-_, _*_, _≤_, _<_}
-use mathlib.Core.Path.{_≡_, refl, sym, ap, _∙_}
+use mathlib.Core.Path.{_≡_, refl}
 use mathlib.Core.Bool.{Bool, true, false}
-use mathlib.Core.Logic.{inl, inr}
+use mathlib.Core.Logic.{inl, inr, ⊎-elim}
 use mathlib.Core.List.{map}
-use lib.Dec.{leb}
 use native.Mathlib.Omega.{arith}
 use native.Mathlib.Decide.{decLt}
-use borrow.Author.Tests.{leb-true}
 use Rattle.gregorian.specs.declared.Date.{Date}
-use Rattle.gregorian.specs.Calendar.{leap, leapDay, yearLength, monthLength, total, dayNumber, lastDay, isDate, number, dayAfter, dateOf}
+use Rattle.gregorian.specs.Calendar.{leap, leapDay, yearLength, monthLength, total, dayNumber, isDateOf, number, dateOf}
 use Rattle.gregorian.proofs.Total.{total-mono, total-next}
-use Rattle.gregorian.proofs.Tests.{and-left, and-right}
-use Rattle.gregorian.proofs.Laws.{DateExists, is-date, day-of-year, date-of-number, number-of-date, number-before}
+use Rattle.gregorian.proofs.Laws.{DateExists, is-date, day-of-year, number-of-date, number-before}
 use Rattle.ranges.specs.Ranges.{daysFrom, keep, filter, Every}
+use Rattle.ranges.proofs.Lists.{order}
 use Rattle.ranges.proofs.Items.{every-from, every-filter, every-map}
-use Rattle.calendar.specs.Calls.{isSupported}
-use Rattle.agreement.specs.CallsAgree.{isDateOf, IsRange, Ascending, dayBefore}
+use Rattle.agreement.specs.CallsAgree.{Ascending}
 
 -- the first and the last day of 2020 to 2030
 abbrev pub low : ℕ
@@ -30,44 +27,32 @@ pub bounds : (low ≡ 737425) × (high ≡ 741442) × (suc (total yearLength 201
 unfolding total yearLength leapDay leap monthLength dayNumber
 bounds = (refl, refl, refl, refl)
 
--- A date lies after the years before its own, and not after its year.
-in-year : (t : Date) → DateExists t → (total yearLength (t .year - 1) < number t) × (number t ≤ total yearLength (t .year))
-unfolding dayNumber
-in-year t e = omega (arith, day-of-year (t .year) (t .month) (t .day) e, total-next yearLength (t .year) (e .y-low))
-
 -- What a date has to do with 2020 to 2030, by its year and by its number.
 module _ (t : Date) (d : isDateOf t ≡ true) where
   exists : DateExists t
   exists = is-date (t .year) (t .month) (t .day) d .exists
 
+  -- It is after the years before its own, and not after its own.
+  after-year : (y : ℕ) → y < t .year → total yearLength y < number t
+  unfolding dayNumber
+  after-year y h = omega (arith, day-of-year (t .year) (t .month) (t .day) exists, total-mono yearLength y (t .year - 1) (omega arith))
+
+  up-to-year : (y : ℕ) → t .year ≤ y → number t ≤ total yearLength y
+  unfolding dayNumber
+  up-to-year y h =
+      omega (arith, day-of-year (t .year) (t .month) (t .day) exists, total-next yearLength (t .year) (exists .y-low), total-mono yearLength (t .year) y h)
+
   pub number-from : 2020 ≤ t .year → low ≤ number t
-  number-from h = omega (arith, bounds, in-year t exists, total-mono yearLength 2019 (t .year - 1) (omega arith))
+  number-from h = omega (arith, bounds, after-year 2019 h)
 
   pub number-to : t .year ≤ 2030 → number t ≤ high
-  number-to h = omega (arith, bounds, in-year t exists, total-mono yearLength (t .year) 2030 h)
+  number-to h = omega (arith, bounds, up-to-year 2030 h)
 
   pub year-from : low ≤ number t → 2020 ≤ t .year
-  year-from h = elim (decLt (t .year) 2020) [
-    | no a ↦ omega arith
-    | yes a ↦ omega (arith, bounds, in-year t exists, total-mono yearLength (t .year) 2019 (omega arith))
-  ]
+  year-from h = ⊎-elim (λ (a : t .year ≤ 2019). absurd (omega (arith, bounds, up-to-year 2019 a))) (λ (a : 2019 < t .year). a) (order (t .year) 2019)
 
   pub year-to : number t ≤ high → t .year ≤ 2030
-  year-to h = elim (decLt 2030 (t .year)) [
-    | no a ↦ omega arith
-    | yes a ↦ omega (arith, bounds, in-year t exists, total-mono yearLength 2030 (t .year - 1) (omega arith))
-  ]
-
-  pub same-date : dateOf (number t) ≡ t
-  same-date = date-of-number t exists
-
-  pub after-before : 1 ≤ number t → dayAfter (dayBefore t) ≡ t
-  unfolding dateOf
-  after-before h = let e : suc (number t - 1) ≡ number t = omega arith in ap dateOf e ∙ same-date
-
-pub supported-years : (y : ℕ) → isSupported y ≡ true → (2020 ≤ y) × (y ≤ 2030)
-unfolding isSupported
-supported-years y e = (leb-true 2020 y (and-left (leb 2020 y) _ e), leb-true y 2030 (and-right (leb 2020 y) _ e))
+  year-to h = ⊎-elim (λ (a : t .year ≤ 2030). a) (λ (a : 2030 < t .year). absurd (omega (arith, bounds, after-year 2030 a))) (order (t .year) 2030)
 
 -- The trading days of a range, as dates, ascend.
 pub ascending : (p : ℕ → Bool) (k a : ℕ) → 1 ≤ a → Ascending (map dateOf (filter p (daysFrom a k)))

@@ -1,38 +1,37 @@
 -- The month calls of a range: what each reads, and the lists joined.
 -- Assumes nothing.
-use Prim.Native.Nat.{ℕ, zero, suc, _+_, _-_, _*_, _≤_, _<_}
+use Prim.Native.Nat.{ℕ, zero, suc, _+_, _*_, _≤_, _<_}
 use mathlib.Core.Path.{_≡_, refl, sym, ap, ap₂, _∙_, subst}
 use mathlib.Core.Bool.{Bool, true, false, cond, _&&_}
-use mathlib.Core.Logic.{_⊎_, inl, inr, ⊎-elim}
-use mathlib.Core.List.{List, [], _∷_, _++_, map, map-append, map-map}
-use lib.Dec.{leb, eqb, lit≤}
+use mathlib.Core.Logic.{inl, inr, ⊎-elim}
+use mathlib.Core.List.{List, _++_, map, map-append, map-map}
+use lib.Dec.{leb, eqb}
 use lib.ListN.{length, take}
 use native.Mathlib.Omega.{arith}
 use borrow.Author.Tests.{eqb-true, eqb-false, le-leb}
 use Rattle.gregorian.specs.declared.Date.{Date}
-use Rattle.gregorian.specs.Calendar.{monthLength, dayNumber, lastYear, isDate, Exists, date, number, dateOf}
+use Rattle.gregorian.specs.Calendar.{monthLength, dayNumber, lastYear, isDate, date, number, dateOf}
 use Rattle.gregorian.proofs.Laws.{date-by, month-low, date-of-number, number-of-date}
 use Rattle.utils.specs.Weekday.{nextMonth, nextYear}
 use Rattle.utils.proofs.WeekdayLaws.{month-end}
 use Rattle.markets.specs.Markets.{isTradingDay}
-use Rattle.ranges.specs.Ranges.{daysFrom, days, filter, Every, tradingDays, DateRange, joined, limitTo}
+use Rattle.ranges.specs.Ranges.{Every, tradingDays, DateRange, joined, limitTo}
 use Rattle.ranges.specs.Agreement.{Tile, listOf}
 use Rattle.ranges.proofs.Lists.{order, filter-map}
-use Rattle.ranges.proofs.Items.{every-from, every-filter, map-same, filter-same}
-use Rattle.ranges.proofs.Months.{joined-days}
+use Rattle.ranges.proofs.Items.{every-trading-day, map-same, filter-same}
 use Rattle.error.specs.declared.CountResult.{CountResult}
 use Rattle.calendar.specs.Calls.{isSupported}
 use Rattle.trading_days.specs.Month.{monthList}
 use Rattle.trading_days.proofs.MonthDayLaws.{month-list}
 use Rattle.calendar.specs.RangeCalls.{finalBuffer}
+use Rattle.calendar.proofs.CallLaws.{supported-years}
 use Rattle.calendar.proofs.MonthLaws.{month-of-years, written-ok, written-error, final-start}
-use Rattle.agreement.proofs.Dates.{supported-years}
 use Rattle.agreement.specs.CallsAgree.{Month, monthsFrom, Writes, Reads, datesOf, limitToRange}
 
 -- ---- the months in order
 
 -- The month after is month 1 to 12 of a year, and one on in the order of months.
-pub next-month : (y m : ℕ) → 1 ≤ m → m ≤ 12 → (12 * nextYear y m + nextMonth m ≡ suc (12 * y + m)) × (1 ≤ nextMonth m) × (nextMonth m ≤ 12)
+next-month : (y m : ℕ) → 1 ≤ m → m ≤ 12 → (12 * nextYear y m + nextMonth m ≡ suc (12 * y + m)) × (1 ≤ nextMonth m) × (nextMonth m ≤ 12)
 next-month y m l h = by (eqb m 12) refl
   where
     by : (t : Bool) → eqb m 12 ≡ t → (12 * cond t (y + 1) y + cond t 1 (m + 1) ≡ suc (12 * y + m)) × (1 ≤ cond t 1 (m + 1)) × (cond t 1 (m + 1) ≤ 12)
@@ -47,14 +46,14 @@ same-month y m y′ m′ l h l′ h′ e = (omega arith, omega arith)
 abbrev pub monthRange : Month → DateRange
 monthRange m = record { first = dayNumber (m .year) (m .month) 1; last = dayNumber (m .year) (m .month) (monthLength (m .year) (m .month)) }
 
-pub one-day : (y m d e : ℕ) → d ≤ e → dayNumber y m d ≤ dayNumber y m e
+-- days of one month, and the day number of each
+pub later-in-month : (y m d e : ℕ) → d ≤ e → dayNumber y m d ≤ dayNumber y m e
 unfolding dayNumber
-one-day y m d e h = omega arith
+later-in-month y m d e h = omega arith
 
--- a month has a first day
-pub first-of-month : {y m d : ℕ} → Exists y m d → Exists y m 1
-first-of-month {y} {m} e =
-    record { y-low = e .y-low; m-low = e .m-low; m-high = e .m-high; d-low = lit≤ tt; d-high = omega (arith, month-low y m (e .m-low) (e .m-high)) }
+pub number-from-day : (y m d : ℕ) → d ≤ dayNumber y m d
+unfolding dayNumber
+number-from-day y m d = omega arith
 
 -- The months from one to another tile the days from the first of the one to the last of the other.
 pub tile : (k y m y′ m′ : ℕ) → 1 ≤ y → 1 ≤ m → m ≤ 12 → 1 ≤ m′ → m′ ≤ 12 → y′ ≤ lastYear → 12 * y + m + k ≡ 12 * y′ + m′
@@ -62,12 +61,12 @@ pub tile : (k y m y′ m′ : ℕ) → 1 ≤ y → 1 ≤ m → m ≤ 12 → 1 �
 tile zero y m y′ m′ o l h l′ h′ u e =
     let same = same-month y m y′ m′ l h l′ h′ (omega arith) in
     let long = month-low y m l h in
-    let start = one-day y m 1 (monthLength y m) (omega arith) in
+    let start = later-in-month y m 1 (monthLength y m) (omega arith) in
     (refl, omega arith, ap₂ (λ (i j : ℕ). suc (dayNumber i j (monthLength i j))) (same .0) (same .1))
 tile (suc k) y m y′ m′ o l h l′ h′ u e =
     let next = next-month y m l h in
     let long = month-low y m l h in
-    let start = one-day y m 1 (monthLength y m) (omega arith) in
+    let start = later-in-month y m 1 (monthLength y m) (omega arith) in
     let date : isDate y m 1 ≡ true = date-by y m 1 (o, omega arith) (l, h) (omega arith, omega arith) in
     let end = month-end y m date in (
       refl,
@@ -99,7 +98,7 @@ module _ (market : ℕ) (known : market ≤ 4) (y m : ℕ) (year : isSupported y
   reads buffer =
       ⊎-elim (λ (fits : length bytes ≤ length buffer). inl (writes buffer fits))
       (λ (short : length buffer < length bytes).
-      inr (length bytes, month-of-years market y m buffer known year l h ∙ written-error bytes buffer short, writes))
+      inr (month-of-years market y m buffer known year l h ∙ written-error bytes buffer short, writes))
       (order (length bytes) (length buffer))
 
   -- The bytes, as dates, are the trading days of the month.
@@ -107,9 +106,8 @@ module _ (market : ℕ) (known : market ≤ 4) (y m : ℕ) (year : isSupported y
   unfolding monthList
   dates =
       map-same (date y m) (λ d. dateOf (dayNumber y m d)) bytes
-      (every-filter _ _ (days 1 (monthLength y m))
-      (every-from _ (suc (monthLength y m) - 1) 1
-      (λ d a b. sym (date-of-number (date y m d) (record { y-low = low; m-low = l; m-high = h; d-low = a; d-high = omega arith })))))
+      (every-trading-day _ _ 1 (monthLength y m)
+      (λ d a b. sym (date-of-number (date y m d) (record { y-low = low; m-low = l; m-high = h; d-low = a; d-high = b }))))
       ∙ sym (map-map dateOf (dayNumber y m) bytes)
       ∙ ap (map dateOf) (month-list market y m)
     where
@@ -151,5 +149,4 @@ limited-dates trades first last a b o =
     filter-map (λ t. leb (number first) (number t) && leb (number t) (number last)) dateOf (tradingDays trades a b)
     ∙ ap (map dateOf)
     (filter-same _ _ (tradingDays trades a b)
-    (every-filter _ trades (days a b)
-    (every-from _ (suc b - a) a (λ i x y. ap (λ (n : ℕ). leb (number first) n && leb n (number last)) (number-of-date i (omega arith))))))
+    (every-trading-day _ trades a b (λ i x y. ap (λ (n : ℕ). leb (number first) n && leb n (number last)) (number-of-date i (omega arith)))))

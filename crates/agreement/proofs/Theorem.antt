@@ -1,27 +1,28 @@
 -- The calls agree on every date range of 2020 to 2030.
 -- Assumes nothing.
-use Prim.Native.Nat.{ℕ, zero, suc, _+_, _-_, _*_, _≤_, _<_}
-use mathlib.Core.Path.{_≡_, refl, sym, ap, _∙_, subst, subst₂}
-use mathlib.Core.Bool.{Bool, true}
+use Prim.Native.Nat.{ℕ, suc, _+_, _-_, _*_, _≤_}
+use mathlib.Core.Path.{_≡_, sym, ap, _∙_, subst, subst₂}
+use mathlib.Core.Bool.{Bool}
 use mathlib.Core.List.{List, map, reverse}
 use lib.Dec.{leb}
 use lib.ListN.{length, length-map}
 use native.Mathlib.Omega.{arith}
 use Rattle.gregorian.specs.declared.Date.{Date}
-use Rattle.gregorian.specs.Calendar.{monthLength, dayNumber, firstDay, lastDay, IsDate, number, dayAfter, dateOf}
-use Rattle.gregorian.proofs.Laws.{is-date, number-low}
+use Rattle.gregorian.specs.Calendar.{monthLength, dayNumber, firstDay, lastDay, IsDate, number, dayAfter, dateOf, dayBefore}
+use Rattle.gregorian.proofs.Laws.{is-date, date-of-number}
 use Rattle.markets.specs.Markets.{isTradingDay}
-use Rattle.ranges.specs.Ranges.{tradingDays, countTradingDays, sumOf, parts, joined}
-use Rattle.ranges.specs.Agreement.{Agreement, Traversal, Tile, countOf, listOf}
-use Rattle.ranges.proofs.Items.{map-reverse}
+use Rattle.ranges.specs.Ranges.{tradingDays, countTradingDays, parts}
+use Rattle.ranges.specs.Agreement.{Agreement, Traversal, NextCall, PreviousCall, Tile}
+use Rattle.ranges.proofs.Lists.{map-reverse}
 use Rattle.ranges.proofs.Months.{limited, joined-days}
 use Rattle.longest_run.proofs.Markets.{markets-agree}
 use Rattle.error.specs.declared.CountResult.{CountResult}
-use Rattle.agreement.specs.CallsAgree.{isDateOf, IsRange, tradingDates, dayBefore, Next, Previous, Month, monthsFrom, monthsOf, limitToRange, MonthLists, SplitDates, PartCounts, CallsAgree, AllCallsAgree}
-use Rattle.agreement.proofs.Dates.{low, high, bounds, number-from, number-to, same-date, supported-years, ascending, months-ordered}
-use Rattle.agreement.proofs.Traversals.{forward, backward}
-use Rattle.agreement.proofs.Months.{MonthsInYears, monthRange, listed, first-of-month, one-day, tile, all-read, joined-dates, limited-dates}
-use Rattle.agreement.proofs.Counts.{sum-map, splits-of, counted, empty-part, part-counts}
+use Rattle.agreement.specs.CallsAgree.{IsRange, tradingDates, Next, Previous, Month, monthsFrom, monthsOf, limitToRange, MonthLists, SplitDates, PartCounts, CallsAgree, AllCallsAgree}
+use Rattle.calendar.proofs.CallLaws.{supported-years}
+use Rattle.agreement.proofs.Dates.{low, high, bounds, number-from, number-to, ascending, months-ordered}
+use Rattle.agreement.proofs.Traversals.{as-dates, next-answer, previous-answer}
+use Rattle.agreement.proofs.Months.{MonthsInYears, monthRange, listed, later-in-month, number-from-day, tile, all-read, joined-dates, limited-dates}
+use Rattle.agreement.proofs.Counts.{splits-of, counted, empty-part, countOfPart, part-counts}
 
 module _ (market : ℕ) (first last : Date) (known : market ≤ 4) (range : IsRange first last) where
   abbrev trades : ℕ → Bool
@@ -33,6 +34,12 @@ module _ (market : ℕ) (first last : Date) (known : market ≤ 4) (range : IsRa
   abbrev b : ℕ
   b = number last
 
+  first-is : IsDate (first .year) (first .month) (first .day)
+  first-is = is-date (first .year) (first .month) (first .day) (range .first-date)
+
+  last-is : IsDate (last .year) (last .month) (last .day)
+  last-is = is-date (last .year) (last .month) (last .day) (range .last-date)
+
   first-low : low ≤ a
   first-low = number-from first (range .first-date) (supported-years (first .year) (range .first-year) .0)
 
@@ -42,19 +49,16 @@ module _ (market : ℕ) (first last : Date) (known : market ≤ 4) (range : IsRa
   on-days : Agreement trades 10 firstDay lastDay a b
   on-days = markets-agree market a b known first-low (range .ordered) last-high
 
+  on-forward : Traversal (Next market) (λ t. leb (number t) b) (dayBefore first) (tradingDates market first last)
+  on-forward = as-dates (NextCall trades 10 lastDay) (Next market) (next-answer market known) (λ m. leb m b) (a - 1) (tradingDays trades a b) (omega (arith, bounds, first-low), omega (arith, bounds, range .ordered, last-high)) (on-days .forward)
+
   on-backward : Traversal (Previous market) (λ t. leb a (number t)) (dayAfter last) (reverse (tradingDates market first last))
   unfolding dateOf
   on-backward =
-      subst₂ (Traversal (Previous market) (λ t. leb a (number t))) (ap dayAfter (same-date last (range .last-date))) (map-reverse dateOf (tradingDays trades a b))
-      (backward market known (suc b) a (reverse (tradingDays trades a b)) (omega arith) (omega (arith, bounds, last-high)) (omega (arith, bounds, first-low)) (on-days .backward))
+      subst₂ (Traversal (Previous market) (λ t. leb a (number t))) (ap dayAfter (date-of-number last (last-is .exists))) (map-reverse dateOf (tradingDays trades a b))
+      (as-dates (PreviousCall trades 10 firstDay) (Previous market) (previous-answer market known) (λ m. leb a m) (suc b) (reverse (tradingDays trades a b)) (omega arith, omega (arith, bounds, last-high)) (on-days .backward))
 
   -- ---- the months
-
-  first-is : IsDate (first .year) (first .month) (first .day)
-  first-is = is-date (first .year) (first .month) (first .day) (range .first-date)
-
-  last-is : IsDate (last .year) (last .month) (last .day)
-  last-is = is-date (last .year) (last .month) (last .day) (range .last-date)
 
   -- how many months the last date's is after the first date's
   abbrev later : ℕ
@@ -95,8 +99,8 @@ module _ (market : ℕ) (first last : Date) (known : market ≤ 4) (range : IsRa
         ap (limitToRange first last)
             (joined-dates market known _ (first .year) (first .month) (f .m-low) (f .m-high) in-years
             ∙ ap (map dateOf) (joined-days trades from (map monthRange (monthsOf first last)) to tiled))
-            ∙ limited-dates trades first last from to (number-low (first .year) (first .month) 1 (first-of-month f))
-            ∙ ap (map dateOf) (limited trades a b from to (omega (arith, bounds, first-low)) (range .ordered) (one-day (first .year) (first .month) 1 (first .day) (f .d-low)) (one-day (last .year) (last .month) (last .day) _ (l .d-high))),
+            ∙ limited-dates trades first last from to (number-from-day (first .year) (first .month) 1)
+            ∙ ap (map dateOf) (limited trades a b from to (omega (arith, bounds, first-low)) (range .ordered) (later-in-month (first .year) (first .month) 1 (first .day) (f .d-low)) (later-in-month (last .year) (last .month) (last .day) _ (l .d-high))),
       )
 
   -- ---- all of it
@@ -105,22 +109,21 @@ module _ (market : ℕ) (first last : Date) (known : market ≤ 4) (range : IsRa
   on-length = on-days .count ∙ sym (length-map (tradingDays trades a b) dateOf)
 
   on-parts : (splits : List Date) → SplitDates first splits last → PartCounts market first splits last
-  on-parts splits s = (
-    map (countOf trades) (parts a (map number splits) b),
-    part-counts market known first splits last (range .first-date) first-low (range .last-date) last-high s,
-    sum-map (countOf trades) (parts a (map number splits) b) ∙ on-days .parts-add-up (map number splits) (splits-of first splits last s) ∙ on-length,
-  )
+  on-parts splits s =
+      let counts = part-counts market known first splits last (range .first-date) first-low (range .last-date) last-high s in
+      (countOfPart market known, counts .0, counts .1 ∙ on-days .parts-add-up (map number splits) (splits-of first splits last s) ∙ on-length)
+
+  agrees : CallsAgree market first last
+  agrees =
+      record {
+        ascending = ascending trades (suc b - a) a (omega (arith, bounds, first-low));
+        forward = on-forward;
+        backward = on-backward;
+        months = on-months;
+        count = counted market known first last (range .first-date) (range .last-date) first-low last-high ∙ ap CountResult.Ok on-length;
+        parts = on-parts;
+        empty-part = λ split d l u. empty-part market known split d (omega (arith, first-low)) (omega (arith, last-high));
+      }
 
 pub calls-agree : AllCallsAgree
-calls-agree market first last known range =
-    let low = first-low market first last known range in
-    let high = last-high market first last known range in
-    record {
-      ascending = ascending (isTradingDay market) (suc (number last) - number first) (number first) (omega (arith, bounds, low));
-      forward = forward market known (number first - 1) (number last) (tradingDays (isTradingDay market) (number first) (number last)) (omega (arith, bounds, low)) (omega (arith, range .ordered)) (omega (arith, bounds, high)) (on-days market first last known range .forward);
-      backward = on-backward market first last known range;
-      months = on-months market first last known range;
-      count = counted market known first last (range .first-date) (range .last-date) low high ∙ ap CountResult.Ok (on-length market first last known range);
-      parts = on-parts market first last known range;
-      empty-part = λ split d l u. empty-part market known split d (omega (arith, low)) (omega (arith, high));
-    }
+calls-agree = agrees

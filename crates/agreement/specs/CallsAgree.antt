@@ -8,7 +8,7 @@ use mathlib.Core.List.{List, [], _∷_, map, reverse}
 use lib.Dec.{leb}
 use lib.ListN.{length, take}
 use Rattle.gregorian.specs.declared.Date.{Date}
-use Rattle.gregorian.specs.Calendar.{isDate, date, number, dayAfter, dateOf}
+use Rattle.gregorian.specs.Calendar.{isDateOf, date, number, dayAfter, dateOf, dayBefore}
 use Rattle.utils.specs.Weekday.{nextMonth, nextYear}
 use Rattle.markets.specs.Markets.{isTradingDay}
 use Rattle.ranges.specs.Ranges.{daysBetween, filter, Every, tradingDays, sumOf, joined}
@@ -20,9 +20,6 @@ use Rattle.calendar.specs.Calls.{isSupported}
 use Rattle.calendar.specs.RangeCalls.{nextTradingDayResult, previousTradingDayResult, tradingDaysInMonthResult, tradingDaysInMonthBuffer, countTradingDaysResult}
 
 -- ---- the range
-
-abbrev pub isDateOf : Date → Bool
-isDateOf t = isDate (t .year) (t .month) (t .day)
 
 -- [agreement-range]: a range ("stretch") goes from a first to a last date, two dates of 2020 to 2030 in order
 pub record IsRange (first last : Date) : Type 0 where
@@ -41,10 +38,6 @@ abbrev pub Ascending : List Date → Type 0
 Ascending [] = Unit {0}
 Ascending (t ∷ l) = Every (λ u. number t < number u) l × Ascending l
 
--- the day before; dayAfter of it is the day itself (proofs/Dates.antt, `after-before`)
-abbrev pub dayBefore : Date → Date
-dayBefore t = dateOf (number t - 1)
-
 -- ---- traversals
 
 abbrev pub nextCall : ℕ → Date → TradingDayResult
@@ -53,16 +46,18 @@ nextCall market t = nextTradingDayResult market (t .year) (t .month) (t .day)
 abbrev pub previousCall : ℕ → Date → TradingDayResult
 previousCall market t = previousTradingDayResult market (t .year) (t .month) (t .day)
 
--- [agreement-call]: a call ("step") gives no error and answers a date. `earlier` and `later` are the date given and the answer in
--- order. At most ten days are strictly between them, and none of these trades; the distance is one more than their number, and
--- it is the days from the one to the other.
+-- [agreement-call], [agreement-no-error]: a call ("step") gives no error and answers a date that trades. `earlier` and `later` are the
+-- date given and the answer in order. At most ten days are strictly between them, and none of these trades; the distance is one more
+-- than their number, and it is the number of days from the one to the other.
 pub record NeighbourAnswer (market : ℕ) (result : TradingDayResult) (answer earlier later : Date) : Type 0 where
   pub distance : ℕ
   pub outside : Bool
   pub no-error : result ≡ TradingDayResult.Ok (record { date = answer; distance = distance; outside = outside })
+  pub is-date : isDateOf answer ≡ true
+  pub trading : isTradingDay market (number answer) ≡ true
   pub between : NonTradingBetween (isTradingDay market) 10 (number earlier) (number later)
   pub one-more : distance ≡ suc (length (daysBetween (number earlier) (number later)))
-  pub days-between : number earlier + distance ≡ number later
+  pub difference : number earlier + distance ≡ number later
 
 abbrev pub Next : ℕ → Date → Date → Type 0
 Next market given answer = NeighbourAnswer market (nextCall market given) answer given answer
@@ -95,11 +90,12 @@ Writes market m buffer bytes =
     (monthCall market m buffer ≡ CountResult.Ok (length bytes))
     × (take (length bytes) (tradingDaysInMonthBuffer market (m .year) (m .month) buffer) ≡ bytes)
 
--- so on the month's own buffer; or that gives error 9, and so on every buffer that has the bytes needed
+-- The bytes come so from the month's own buffer; or the call gives error 9 there and names their number, and they come so from every
+-- buffer of that length or more.
 abbrev pub Reads : ℕ → Month → List ℕ → List ℕ → Type 0
 Reads market m buffer bytes =
     Writes market m buffer bytes
-    ⊎ ((needed : ℕ) × (monthCall market m buffer ≡ CountResult.Err (BufferTooSmall needed)) × ((room : List ℕ) → needed ≤ length room → Writes market m room bytes))
+    ⊎ ((monthCall market m buffer ≡ CountResult.Err (BufferTooSmall (length bytes))) × ((room : List ℕ) → length bytes ≤ length room → Writes market m room bytes))
 
 -- the bytes as days of their month
 abbrev pub datesOf : (Month → List ℕ) → Month → List Date
@@ -135,11 +131,11 @@ abbrev pub SplitDates : Date → List Date → Date → Type 0
 SplitDates first [] last = number first ≤ suc (number last)
 SplitDates first (split ∷ splits) last = (isDateOf split ≡ true) × (number first ≤ number split) × SplitDates split splits last
 
--- the count calls on the parts answer some counts, without an error; they add up to the length of the list
+-- [agreement-no-error]: the count calls on the parts answer counts, without an error; these add up to the length of the list
 abbrev pub PartCounts : ℕ → Date → List Date → Date → Type 0
 PartCounts market first splits last =
-    (counts : List ℕ) × (map (λ p. countCall market (p .start) (p .end)) (partsOf first splits last) ≡ map CountResult.Ok counts)
-    × (sumOf (λ n. n) counts ≡ length (tradingDates market first last))
+    (counts : Part → ℕ) × Every (λ p. countCall market (p .start) (p .end) ≡ CountResult.Ok (counts p)) (partsOf first splits last)
+    × (sumOf counts (partsOf first splits last) ≡ length (tradingDates market first last))
 
 -- ---- the claim
 

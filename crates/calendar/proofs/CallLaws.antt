@@ -3,9 +3,10 @@
 use Prim.Native.Nat.{ℕ, _≤_, _<_}
 use mathlib.Core.Path.{_≡_, refl, ap, _∙_, subst}
 use mathlib.Core.Bool.{Bool, true, false, cond, not}
-use lib.Dec.{ltb}
-use borrow.Author.Tests.{lt-ltb, le-ltb, not-false}
+use lib.Dec.{ltb, leb}
+use borrow.Author.Tests.{lt-ltb, le-ltb, leb-true, not-false}
 use Rattle.gregorian.specs.Calendar.{lastDay, isDate, date, dayNumber}
+use Rattle.gregorian.proofs.Tests.{and-left, and-right}
 use Rattle.gregorian.proofs.Laws.{number-range}
 use Rattle.error.specs.declared.CalendarError.{CalendarError}
 use Rattle.error.specs.declared.CalendarError.the-variants.{UnknownMarket, InvalidDate, TimeOutOfRange, DateOutOfRange}
@@ -16,6 +17,11 @@ use Rattle.calendar.specs.Calls.{isSupported, tryDay, checkedDay, checke
 no-error : (b : Bool) (e : CalendarError) (x : DayResult) (n : ℕ) → cond b (DayResult.Err e) x ≡ DayResult.Ok n → (b ≡ false) × (x ≡ DayResult.Ok n)
 no-error true e x n q = (cc, cc)
 no-error false e x n q = (refl, q)
+
+-- a year that is answered
+pub supported-years : (y : ℕ) → isSupported y ≡ true → (2020 ≤ y) × (y ≤ 2030)
+unfolding isSupported
+supported-years y e = (leb-true 2020 y (and-left (leb 2020 y) _ e), leb-true y 2030 (and-right (leb 2020 y) _ e))
 
 -- what follows a day, and an error
 module _ {A : Type 0} (error : CalendarError → A) (rest : ℕ → A) (r : DayResult) where

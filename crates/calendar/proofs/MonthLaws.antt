@@ -18,6 +18,7 @@ use Rattle.error.specs.declared.CalendarError.{CalendarError}
 use Rattle.error.specs.declared.CalendarError.the-variants.{UnknownMarket, DateOutOfRange, InvalidDateCalculation, BufferTooSmall}
 use Rattle.trading_days.specs.Month.{monthList}
 use Rattle.calendar.specs.Calls.{isSupported}
+use Rattle.calendar.proofs.CallLaws.{supported-years}
 use Rattle.calendar.specs.RangeCalls.{monthErrorDate, writtenResult, finalBuffer, tradingDaysInMonthResult, tradingDaysInMonthBuffer}
 
 -- ---- bytes and a buffer
@@ -42,10 +43,8 @@ final-start bytes buffer n = take-at bytes (drop (length bytes) buffer) (length 
 
 -- The first of the month is a date where errors 1 and 2 do not apply.
 pub first-is-date : (year month : ℕ) → isSupported year ≡ true → (leb 1 month && leb month 12) ≡ true → isDate year month 1 ≡ true
-unfolding isSupported
 first-is-date year month s m =
-    let low = leb-true 2020 year (and-left (leb 2020 year) _ s) in
-    let high = leb-true year 2030 (and-right (leb 2020 year) _ s) in
+    let years = supported-years year s in
     let from = leb-true 1 month (and-left (leb 1 month) _ m) in
     let to = leb-true month 12 (and-right (leb 1 month) _ m) in
     date-by year month 1 (omega arith, omega arith) (from, to) (lit≤ tt, omega (arith, month-low year month from to))

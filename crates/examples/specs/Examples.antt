@@ -45,8 +45,8 @@ abbrev pub tsx : ℕ
 tsx = 4
 
 -- answers without an error; the mark of the next trading day is not set
-abbrev pub found : Date → OptionalDate
-found t = record { found = 1; date = t }
+abbrev pub foundDate : Date → OptionalDate
+foundDate t = record { found = 1; date = t }
 
 abbrev pub isYes : BoolAnswer
 isYes = record { error = 0; value = 1; date = noDate }
@@ -71,14 +71,15 @@ forEachMarket row = map row (0 ∷ 1 ∷ 2 ∷ 3 ∷ 4 ∷ [])
 -- the rows of [examples], in its order
 abbrev pub examples : List Example
 examples =
-    CalculateEaster 2024 (found (date 2024 3 31))
-    ∷ CalculateEaster 1818 (found (date 1818 3 22))
-    ∷ CalculateEaster 1943 (found (date 1943 4 25))
+    CalculateEaster 2024 (foundDate (date 2024 3 31))
+    ∷ CalculateEaster 1818 (foundDate (date 1818 3 22))
+    ∷ CalculateEaster 1943 (foundDate (date 1943 4 25))
     ∷ NextTradingDay tse (date 2022 4 28) (inside (date 2022 5 9) 11)
     ∷ IsTradingDay tse (date 2020 5 6) isYes
     ∷ IsHoliday tse (date 2021 1 4) isYes
     ∷ IsTradingDay tsx (date 2022 12 27) isYes
     ∷ IsHoliday nyse (date 2022 1 3) isYes
+    ∷ IsHoliday lse (date 2021 12 28) isYes
     ∷ IsTradingDay lse (date 2021 12 28) isNo
     ∷ IsTradingDay lse (date 2021 12 29) isYes
     ∷ CountTradingDays nyse (date 2025 1 1) (date 2025 1 31) (counted 21)

@@ -9,7 +9,7 @@ use native.Mathlib.Omega.{arith}
 use native.Mathlib.Decide.{decLt}
 use borrow.Author.Tests.{ltb-true, ltb-false, leb-true, le-leb}
 use Rattle.gregorian.specs.declared.Date.{Date}
-use Rattle.gregorian.specs.Calendar.{total, yearLength, monthLength, dayNumber, lastYear, lastDay, Exists, IsDate, isDate, dayAfter, dateOf, date, number}
+use Rattle.gregorian.specs.Calendar.{total, yearLength, monthLength, dayNumber, lastYear, lastDay, Exists, IsDate, isDate, dayAfter, dateOf, date, number, dayBefore}
 use Rattle.gregorian.proofs.Total.{total-none, total-next, total-mono, place-lt, place-eq, upto}
 use Rattle.gregorian.proofs.Years.{years-is}
 use Rattle.gregorian.proofs.Tests.{and-left, and-right}
@@ -176,6 +176,12 @@ pub date-of-number : (t : Date) → DateExists t → dateOf (number t) ≡ t
 date-of-number t h =
     let l = number-low (t .year) (t .month) (t .day) h in
     unique (dateOf (number t)) t (date-exists (number t) l) h (number-of-date (number t) l)
+
+pub after-before : (t : Date) → DateExists t → dayAfter (dayBefore t) ≡ t
+unfolding dateOf
+after-before t h =
+    let e : suc (number t - 1) ≡ number t = omega (arith, number-low (t .year) (t .month) (t .day) h) in
+    ap dateOf e ∙ date-of-number t h
 
 -- Years 1 to 9999 are the numbers 1 to 3652059.
 pub number-high : (y m d : ℕ) → Exists y m d → y ≤ lastYear → dayNumber y m d ≤ lastDay

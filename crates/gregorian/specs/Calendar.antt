@@ -65,7 +65,10 @@ isDate y m d = leb 1 y && leb y lastYear && leb 1 m && leb m 12 && leb 1 d && le
 abbrev pub date : ℕ → ℕ → ℕ → Date
 date y m d = record { year = y; month = m; day = d }
 
--- the day number of a date
+-- the test and the day number of a date
+abbrev pub isDateOf : Date → Bool
+isDateOf t = isDate (t .year) (t .month) (t .day)
+
 abbrev pub number : Date → ℕ
 number t = dayNumber (t .year) (t .month) (t .day)
 
@@ -84,6 +87,10 @@ dayAfter t =
 unfoldable pub dateOf : ℕ → Date
 dateOf zero = date 0 12 31
 dateOf (suc n) = dayAfter (dateOf n)
+
+-- The day before: the day after it is the day itself (proofs/Laws.antt, `after-before`).
+abbrev pub dayBefore : Date → Date
+dayBefore t = dateOf (number t - 1)
 
 -- the numbers of weekdays, those that are asked for by name
 abbrev pub monday : ℕ

@@ -11,6 +11,10 @@ use Rattle.ranges.specs.Ranges.{daysFrom, keep, filter, tradingDays, one
 use Rattle.ranges.specs.Agreement.{Splits, countOf}
 use Rattle.ranges.proofs.Lists.{trading-split}
 
+pub splits-order : (a : ℕ) (splits : List ℕ) (b : ℕ) → Splits a splits b → a ≤ suc b
+splits-order a [] b h = h
+splits-order a (c ∷ splits) b h = omega (arith, splits-order c splits b (h .1))
+
 module _ (trades : ℕ → Bool) where
   -- The count, for its loop: day a is looked at, and then the days after it; and none is left.
   module _ (count a b : ℕ) where
@@ -54,10 +58,6 @@ module _ (trades : ℕ → Bool) where
   -- an empty part
   pub count-none : (a b : ℕ) → b < a → countTradingDays trades a b ≡ 0
   count-none = count-done 0
-
-  pub splits-order : (a : ℕ) (splits : List ℕ) (b : ℕ) → Splits a splits b → a ≤ suc b
-  splits-order a [] b h = h
-  splits-order a (c ∷ splits) b h = omega (arith, splits-order c splits b (h .1))
 
   pub parts-add-up : (a : ℕ) (splits : List ℕ) (b : ℕ) → 1 ≤ a → Splits a splits b → sumOf (countOf trades) (parts a splits b) ≡ countTradingDays trades a b
   parts-add-up a [] b o h = omega arith

@@ -1,11 +1,11 @@
 -- What holds of each item of a list: of days, through a filter and a map; and two functions that agree on each item.
 -- Assumes nothing.
-use Prim.Native.Nat.{ℕ, zero, suc, _+_, _≤_, _<_}
-use mathlib.Core.Path.{_≡_, refl, sym, ap, ap₂, _∙_}
+use Prim.Native.Nat.{ℕ, zero, suc, _+_, _-_, _≤_, _<_}
+use mathlib.Core.Path.{_≡_, refl, ap₂}
 use mathlib.Core.Bool.{Bool, true, false}
-use mathlib.Core.List.{List, [], _∷_, _++_, map, map-append, reverse, reverse-cons}
+use mathlib.Core.List.{List, [], _∷_, map}
 use native.Mathlib.Omega.{arith}
-use Rattle.ranges.specs.Ranges.{daysFrom, keep, filter, Every}
+use Rattle.ranges.specs.Ranges.{daysFrom, days, keep, filter, Every, tradingDays}
 
 pub every-from : (P : ℕ → Type 0) (k a : ℕ) → ((i : ℕ) → a ≤ i → i < a + k → P i) → Every P (daysFrom a k)
 unfolding daysFrom
@@ -21,6 +21,10 @@ every-filter P p (x ∷ l) e = kept (p x) (every-filter P p l (e .1))
     kept true r = (e .0, r)
     kept false r = r
 
+-- a fact of each day of a range holds of its trading days
+pub every-trading-day : (P : ℕ → Type 0) (trades : ℕ → Bool) (a b : ℕ) → ((i : ℕ) → a ≤ i → i ≤ b → P i) → Every P (tradingDays trades a b)
+every-trading-day P trades a b h = every-filter P trades (days a b) (every-from P (suc b - a) a (λ i x y. h i x (omega arith)))
+
 pub every-map : {A B : Type 0} (P : B → Type 0) (f : A → B) (l : List A) → Every (λ x. P (f x)) l → Every P (map f l)
 every-map P f [] e = tt
 every-map P f (x ∷ l) e = (e .0, every-map P f l (e .1))
@@ -34,10 +38,13 @@ unfolding filter
 filter-same p q [] e = refl
 filter-same p q (x ∷ l) e = ap₂ (λ (t : Bool) (r : List _). keep t x r) (e .0) (filter-same p q l (e .1))
 
-pub map-reverse : {A B : Type 0} (f : A → B) (l : List A) → map f (reverse l) ≡ reverse (map f l)
-map-reverse f [] = refl
-map-reverse f (x ∷ l) =
-    ap (map f) (reverse-cons x l)
-    ∙ map-append f (reverse l) (x ∷ [])
-    ∙ ap (λ (r : List _). r ++ (f x ∷ [])) (map-reverse f l)
-    ∙ sym (reverse-cons (f x) (map f l))
+-- Where each item passes the filter keeps the list, and where each fails it keeps nothing.
+pub all-pass : {A : Type 0} (p : A → Bool) (l : List A) → Every (λ x. p x ≡ true) l → filter p l ≡ l
+unfolding filter
+all-pass p [] e = refl
+all-pass p (x ∷ l) e = ap₂ (λ (t : Bool) (r : List _). keep t x r) (e .0) (all-pass p l (e .1))
+
+pub none-pass : {A : Type 0} (p : A → Bool) (l : List A) → Every (λ x. p x ≡ false) l → filter p l ≡ []
+unfolding filter
+none-pass p [] e = refl
+none-pass p (x ∷ l) e = ap₂ (λ (t : Bool) (r : List _). keep t x r) (e .0) (none-pass p l (e .1))

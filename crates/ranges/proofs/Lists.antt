@@ -11,6 +11,7 @@ use native.Mathlib.Nat.{zero-add, suc-add, add-zero, add-suc}
 use native.Mathlib.Omega.{arith}
 use borrow.Author.Tests.{leb-true, leb-false}
 use Rattle.ranges.specs.Ranges.{daysFrom, days, keep, filter, tradingDays}
+use Rattle.ranges.proofs.Items.{every-from, none-pass}
 
 -- ---- cases that keep what they rest on
 
@@ -23,6 +24,14 @@ order m n = ⊎-elim (λ e. inl (leb-true m n e)) (λ e. inr (leb-false m n e)) 
 
 pub clash : (t : Bool) → t ≡ true → t ≡ false → ⊥
 clash t p q = let z : _≡_ {A = ℕ} 0 1 = cc in omega arith
+
+pub map-reverse : {A B : Type 0} (f : A → B) (l : List A) → map f (reverse l) ≡ reverse (map f l)
+map-reverse f [] = refl
+map-reverse f (x ∷ l) =
+    ap (map f) (reverse-cons x l)
+    ∙ map-append f (reverse l) (x ∷ [])
+    ∙ ap (λ (r : List _). r ++ (f x ∷ [])) (map-reverse f l)
+    ∙ sym (reverse-cons (f x) (map f l))
 
 -- ---- days
 
@@ -158,9 +167,7 @@ module _ (p : ℕ → Bool) where
 
   -- none of the days passes
   from-fail : (k a : ℕ) → ((i : ℕ) → a ≤ i → i < a + k → p i ≡ false) → filter p (daysFrom a k) ≡ []
-  unfolding daysFrom filter
-  from-fail zero a h = refl
-  from-fail (suc k) a h = rw (h a (omega arith) (omega arith)) (from-fail k (suc a) (λ i x y. h i (omega arith) (omega arith)))
+  from-fail k a h = none-pass p (daysFrom a k) (every-from _ k a h)
 
   pub all-fail : (a b : ℕ) → ((i : ℕ) → a ≤ i → i ≤ b → p i ≡ false) → tradingDays p a b ≡ []
   all-fail a b h = from-fail (suc b - a) a (λ i x y. h i x (omega arith))

@@ -1,51 +1,30 @@
 -- Ranges that tile, and a list limited to a range.
 -- Assumes nothing.
-use Prim.Native.Nat.{ℕ, zero, suc, _+_, _-_, _≤_, _<_}
+use Prim.Native.Nat.{ℕ, suc, _-_, _≤_}
 use mathlib.Core.Path.{_≡_, refl, sym, ap, _∙_}
 use mathlib.Core.Bool.{Bool, true, false, _&&_}
 use mathlib.Core.List.{List, [], _∷_, _++_, append-nil}
 use lib.Dec.{leb}
 use native.Mathlib.Omega.{arith}
 use borrow.Author.Tests.{le-leb, lt-leb}
-use Rattle.ranges.specs.Ranges.{daysFrom, keep, filter, tradingDays, DateRange, joined, limitTo}
+use Rattle.ranges.specs.Ranges.{tradingDays, DateRange, joined, limitTo}
 use Rattle.ranges.specs.Agreement.{Tile, listOf}
+use Rattle.ranges.proofs.Items.{every-trading-day, all-pass, none-pass}
 use Rattle.ranges.proofs.Lists.{filter-append, trading-none, trading-split}
 
--- all of a list, or nothing
-abbrev whole : Bool → List ℕ → List ℕ
-whole true l = l
-whole false l = []
-
--- A test that answers t all along the days keeps all of them, or none.
-filter-alike : (p q : ℕ → Bool) (t : Bool) (k a : ℕ) → ((i : ℕ) → a ≤ i → i < a + k → p i ≡ t) → filter p (filter q (daysFrom a k)) ≡ whole t (filter q (daysFrom a k))
-unfolding daysFrom filter
-filter-alike p q true zero a h = refl
-filter-alike p q false zero a h = refl
-filter-alike p q t (suc k) a h =
-    kept t (q a) (filter q (daysFrom (suc a) k)) (h a (omega arith) (omega arith)) (filter-alike p q t k (suc a) (λ i x y. h i (omega arith) (omega arith)))
-  where
-    kept : (t u : Bool) (l : List ℕ) → p a ≡ t → filter p l ≡ whole t l → filter p (keep u a l) ≡ whole t (keep u a l)
-    kept true true l e f = ap (λ (v : Bool). keep v a (filter p l)) e ∙ ap (λ (r : List ℕ). a ∷ r) f
-    kept false true l e f = ap (λ (v : Bool). keep v a (filter p l)) e ∙ f
-    kept true false l e f = f
-    kept false false l e f = f
-
 module _ (trades : ℕ → Bool) where
-  limit-alike : (a b low high : ℕ) (t : Bool) → ((i : ℕ) → low ≤ i → i ≤ high → (leb a i && leb i b) ≡ t) → limitTo a b (tradingDays trades low high) ≡ whole t (tradingDays trades low high)
-  limit-alike a b low high t h = filter-alike (λ n. leb a n && leb n b) trades t (suc high - low) low (λ i x y. h i x (omega arith))
-
   limit-before : (a b low : ℕ) → 1 ≤ a → limitTo a b (tradingDays trades low (a - 1)) ≡ []
-  limit-before a b low o = limit-alike a b low (a - 1) false (λ i x y. simp (lt-leb a i (omega arith)))
+  limit-before a b low o = none-pass _ _ (every-trading-day _ trades low (a - 1) (λ i x y. simp (lt-leb a i (omega arith))))
 
   limit-after : (a b high : ℕ) → limitTo a b (tradingDays trades (suc b) high) ≡ []
-  limit-after a b high = limit-alike a b (suc b) high false (λ i x y. both (leb a i) (lt-leb i b (omega arith)))
+  limit-after a b high = none-pass _ _ (every-trading-day _ trades (suc b) high (λ i x y. both (leb a i) (lt-leb i b (omega arith))))
     where
       both : (s : Bool) {t : Bool} → t ≡ false → (s && t) ≡ false
       both true e = e
       both false e = refl
 
   limit-inside : (a b : ℕ) → limitTo a b (tradingDays trades a b) ≡ tradingDays trades a b
-  limit-inside a b = limit-alike a b a b true (λ i x y. simp (le-leb a i x, le-leb i b y))
+  limit-inside a b = all-pass _ _ (every-trading-day _ trades a b (λ i x y. simp (le-leb a i x, le-leb i b y)))
 
   -- The trading days of a longer range, limited to a shorter one, are those of the shorter one.
   pub limited : (a b low high : ℕ) → 1 ≤ a → a ≤ b → low ≤ a → b ≤ high → limitTo a b (tradingDays trades low high) ≡ tradingDays trades a b

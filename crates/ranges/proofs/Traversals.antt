@@ -3,13 +3,11 @@
 use Prim.Native.Nat.{ℕ, zero, suc, _+_, _-_, _≤_, _<_}
 use mathlib.Core.Path.{_≡_, refl, sym, ap, ap₂, _∙_, subst, subst₂}
 use mathlib.Core.Bool.{Bool, true}
-use mathlib.Core.Logic.{_⊎_, ⊎-elim}
+use mathlib.Core.Logic.{⊎-elim}
 use mathlib.Core.List.{List, [], _∷_, map, reverse}
 use lib.Dec.{leb}
 use native.Mathlib.Omega.{arith}
 use borrow.Author.Tests.{leb-true, le-leb, lt-leb}
-use Rattle.utils.specs.declared.OptionalDay.{OptionalDay}
-use Rattle.utils.specs.declared.OptionalDay.the-variants.{Day}
 use Rattle.utils.specs.Weekday.{mapDay}
 use Rattle.ranges.specs.Ranges.{days, find, tradingDays}
 use Rattle.ranges.specs.Agreement.{Traversal, NextCall, PreviousCall, ShortRuns}
@@ -34,15 +32,6 @@ traversal-unique C p h n (m ∷ l) [] t u = absurd (clash (p m) (t .1) (ap p (h 
 traversal-unique C p h n (m ∷ l) (k ∷ r) t u =
     let e = h n m k (t .0) (u .0) in
     ap₂ (λ (x : _) (y : List _). x ∷ y) e (traversal-unique C p h m l r (t .2) (subst (λ (x : _). Traversal C p x r) (sym e) (u .2)))
-
-one-answer : (r : OptionalDay) (m k : ℕ) → r ≡ Day m → r ≡ Day k → m ≡ k
-one-answer r m k p q = cc
-
-pub next-answer : (trades : ℕ → Bool) (most last n m k : ℕ) → NextCall trades most last n m → NextCall trades most last n k → m ≡ k
-next-answer trades most last n m k c d = one-answer _ m k (c .0) (d .0)
-
-pub previous-answer : (trades : ℕ → Bool) (most first n m k : ℕ) → PreviousCall trades most first n m → PreviousCall trades most first n k → m ≡ k
-previous-answer trades most first n m k c d = one-answer _ m k (c .0) (d .0)
 
 -- In the mirror two days are no further from each other, and no more days are between them.
 mirror-distance : (c n m : ℕ) → c - n - (c - m) ≤ m - n

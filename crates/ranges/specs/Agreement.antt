@@ -10,8 +10,8 @@ use Rattle.ranges.specs.Ranges.{daysBetween, tradingDays, nextTradingDay
 
 -- A traversal ("walk") from n lists these answers: call after call, each on the answer before, while that is inside. The first
 -- answer that is not ends the traversal, and is not listed. `Call n m` says that the call on n answers m, and what else is
--- to hold of that call ("step"); it holds of every call, the last one too. proofs/Traversals.antt, `traversal-unique`: there is no
--- other list.
+-- to hold of that call ("step"); it holds of every call, the last one too. proofs/Traversals.antt, `traversal-unique`: where a call
+-- has one answer, there is no other list.
 abbrev pub Traversal : {A : Type 0} → (A → A → Type 0) → (A → Bool) → A → List A → Type 0
 Traversal Call inside n [] = (m : _) × Call n m × (inside m ≡ false)
 Traversal Call inside n (m ∷ ms) = Call n m × (inside m ≡ true) × Traversal Call inside m ms
