@@ -9,6 +9,7 @@ use crate::hours::trading_hours_new;
 use crate::lists;
 use crate::name::Name;
 use crate::numbers::Numbers;
+use crate::ranges;
 use answers::BoolAnswer;
 use answers::OptionalDate;
 use answers::neighbours::TradingDayAnswer;
@@ -72,8 +73,12 @@ pub const NEXT_TRADING_DAY: usize = 19;
 
 pub const PREVIOUS_TRADING_DAY: usize = 20;
 
+pub const TRADING_DAYS_IN_MONTH: usize = 21;
+
+pub const COUNT_TRADING_DAYS: usize = 22;
+
 // How many kinds there are. Where a kind is asked for, it says that there is none.
-pub const KINDS: usize = 21;
+pub const KINDS: usize = 23;
 
 pub fn name(kind: usize) -> Name {
     match kind {
@@ -98,6 +103,8 @@ pub fn name(kind: usize) -> Name {
         IS_OPEN_AT => Name::of(b"is_open_at"),
         NEXT_TRADING_DAY => Name::of(b"next_trading_day"),
         PREVIOUS_TRADING_DAY => Name::of(b"previous_trading_day"),
+        TRADING_DAYS_IN_MONTH => Name::of(b"trading_days_in_month"),
+        COUNT_TRADING_DAYS => Name::of(b"count_trading_days"),
         _ => Name::new(),
     }
 }
@@ -120,9 +127,10 @@ fn input_count(kind: usize) -> usize {
         WITH_EARLY_CLOSE | IS_OPEN_AT => 14,
         IS_EARLY_CLOSE | MARKET_CLOSE => 13,
         TRADING_HOURS_NEW => 11,
+        COUNT_TRADING_DAYS => 7,
         IS_OPEN => 5,
         NTH_WEEKDAY_OF_MONTH | IS_TRADING_DAY | IS_HOLIDAY | TRADING_HOURS => 4,
-        NEXT_TRADING_DAY | PREVIOUS_TRADING_DAY => 4,
+        NEXT_TRADING_DAY | PREVIOUS_TRADING_DAY | TRADING_DAYS_IN_MONTH => 4,
         LAST_WEEKDAY_OF_MONTH | TRADING_DAYS | SESSION_CONTAINS => 3,
         HOLIDAYS | HOLIDAYS_ANY_YEAR | SESSION_NEW => 2,
         CALCULATE_EASTER | CALCULATE_GOOD_FRIDAY | CALCULATE_EASTER_MONDAY => 1,
@@ -167,6 +175,8 @@ pub fn answer(kind: usize, inputs: Numbers) -> Numbers {
         IS_OPEN_AT => bool_answer(tc_is_open_at(record(inputs), v[13])),
         NEXT_TRADING_DAY => trading_day_answer(tc_next_trading_day(v[0], v[1], v[2], v[3])),
         PREVIOUS_TRADING_DAY => trading_day_answer(tc_previous_trading_day(v[0], v[1], v[2], v[3])),
+        TRADING_DAYS_IN_MONTH => ranges::trading_days_in_month(v[0], v[1], v[2], v[3]),
+        COUNT_TRADING_DAYS => ranges::count_trading_days(inputs),
         _ => Numbers::new(),
     }
 }
@@ -178,7 +188,8 @@ fn nth_weekday_of_month(year: u32, month: u32, weekday: u32, nth: u32) -> Number
     optional_date(tc_nth_weekday_of_month(year, month, weekday, nth as u8))
 }
 
-// The fields of a C struct, in order; those about hours are in the module `hours`.
+// The fields of a C struct, in order; those about hours are in the module `hours`, and those of the month list and the count in
+// `ranges`.
 fn optional_date(answer: OptionalDate) -> Numbers {
     let date = answer.date;
     Numbers::new()

@@ -4,6 +4,7 @@ mod hours;
 mod lists;
 mod name;
 mod numbers;
+mod ranges;
 mod reader;
 mod report;
 mod row;
@@ -35,5 +36,6 @@ fn main() {
     replay(b"holidays.txt");
     replay(b"hours.txt");
     replay(b"neighbours.txt");
+    replay(b"ranges.txt");
     replay(b"malformed.txt");
 }
