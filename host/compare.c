@@ -10,6 +10,8 @@ enum { SHOWN = 5 };
 const uint32_t limits[LIMITS] = {0, 1, 5, 6, 7, 8, 11, 12, 13, 255, 256, 257, 2019, 9998, 9999, 10000, 10001, 65536, 65537,
                                  INT32_MAX, (uint32_t)INT32_MAX + 1, UINT32_MAX - 1, UINT32_MAX};
 
+const uint32_t codes[CODES] = {0, 1, 2, 3, 4, 5, 6, UINT32_MAX};
+
 numbers of_date(tc_optional_date a) {
     numbers list = {4, {a.found, a.date.year, a.date.month, a.date.day}};
     return list;
@@ -17,6 +19,11 @@ numbers of_date(tc_optional_date a) {
 
 numbers of_bool(tc_bool_result a) {
     numbers list = {5, {a.error, a.value, a.date.year, a.date.month, a.date.day}};
+    return list;
+}
+
+numbers of_count(tc_count_result a) {
+    numbers list = {5, {a.error, a.count, a.date.year, a.date.month, a.date.day}};
     return list;
 }
 
@@ -53,14 +60,22 @@ int finish(const tally *calls, int count) {
     return failed;
 }
 
+/* By xorshift. */
+uint32_t drawn(void) {
+    static uint32_t state = 20250827;
+    state ^= state << 13;
+    state ^= state >> 17;
+    state ^= state << 5;
+    return state;
+}
+
 void ask_year(asker *ask, uint32_t market, uint32_t year) {
     for (uint32_t month = 0; month <= 13; month++)
         for (uint32_t day = 0; day <= 32; day++) ask(market, year, month, day);
 }
 
 void ask_years(asker *ask, uint32_t first, uint32_t last) {
-    static const uint32_t codes[] = {0, 1, 2, 3, 4, 5, 6, UINT32_MAX};
-    for (size_t i = 0; i < LENGTH(codes); i++)
+    for (int i = 0; i < CODES; i++)
         for (uint32_t year = first; year <= last; year++) ask_year(ask, codes[i], year);
 }
 

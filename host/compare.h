@@ -16,6 +16,7 @@ typedef struct {
 
 numbers of_date(tc_optional_date answer);
 numbers of_bool(tc_bool_result answer);
+numbers of_count(tc_count_result answer);
 
 /* A call, or a law of several calls, by its name, how many comparisons of it are meant, so that a loop cut short is seen, and how
  * many were made and differ. */
@@ -29,13 +30,18 @@ void compare(tally *call, numbers input, numbers answer, numbers expected);
 /* Prints a line for each call. 0 if no answer differs and all were compared that are meant, else 1. */
 int finish(const tally *calls, int count);
 
+/* The next number of a fixed sequence, the same in every run. */
+uint32_t drawn(void);
+
 /* Compares what a call answers on a date. */
 typedef void asker(uint32_t market, uint32_t year, uint32_t month, uint32_t day);
 
 /* Every day of the year, and the numbers around months and days that are no date: 14 months of 33 days. */
 void ask_year(asker *ask, uint32_t market, uint32_t year);
 
-/* The same for five markets and three codes of none, in each year from the first to the last. */
+/* Five markets and three codes of none; the same for each, in each year from the first to the last. */
+enum { CODES = 8 };
+extern const uint32_t codes[CODES];
 void ask_years(asker *ask, uint32_t first, uint32_t last);
 
 /* Numbers at and past every limit of markets and dates; and every code and date that can be made of them. */

@@ -1,5 +1,5 @@
 /* Prints the moving days of a year that the markets' rules rest on; for each market its regular hours, its trading days, counted,
- * and its holidays, be they on weekends or not; when NYSE closes early, and its trading days around 25 December: usage:
+ * and its holidays, be they on weekends or not; when NYSE closes early, its trading days in December and around the 25th: usage:
  * example YEAR. */
 #include "trading_calendar.h"
 
@@ -28,12 +28,8 @@ static void print_moving_days(uint32_t year) {
     print("4th Thursday of November", tc_nth_weekday_of_month(year, 11, THURSDAY, 4));
 }
 
-/* Of the 1st to the 31st of every month. Where there is no such day the answer is an error, and its value 0. */
-static int count_trading_days(uint32_t market, uint32_t year) {
-    int count = 0;
-    for (uint32_t month = 1; month <= 12; month++)
-        for (uint32_t day = 1; day <= 31; day++) count += tc_is_trading_day(market, year, month, day).value == 1;
-    return count;
+static unsigned long count_trading_days(uint32_t market, uint32_t year) {
+    return tc_count_trading_days(market, year, 1, 1, year, 12, 31).count;
 }
 
 static int is_holiday(uint32_t market, uint32_t year, uint32_t month, uint32_t day) {
@@ -85,11 +81,25 @@ static void print_neighbour(const char *name, tc_trading_day_result answer) {
     printf(", distance %lu%s\n", (unsigned long)answer.distance, answer.outside == 1 ? ", outside 2020 to 2030" : "");
 }
 
+/* No month has more than 23 trading days. With error 9, too few bytes, count would be how many it takes. */
+static void print_month(const char *name, uint32_t market, uint32_t year, uint32_t month) {
+    uint8_t days[23];
+    tc_count_result answer = tc_trading_days_in_month(market, year, month, days, sizeof days);
+    printf("%s:", name);
+    if (answer.error != 0) {
+        printf(" error %lu\n", (unsigned long)answer.error);
+        return;
+    }
+    for (uint32_t i = 0; i < answer.count; i++) printf(" %u", (unsigned)days[i]);
+    printf("\n");
+}
+
 static void print_nyse(uint32_t year) {
     enum { NYSE = 0, TEN = 36000 };
     printf("NYSE closes early on: ");
     print_days(trades_and_closes_early, NYSE, year);
     printf("NYSE on Dec 24 at 10:00: %s\n", tc_is_open(NYSE, year, 12, 24, TEN).value == 1 ? "open" : "closed");
+    print_month("NYSE, trading days of Dec", NYSE, year, 12);
     print_neighbour("NYSE, last trading day before Dec 25", tc_previous_trading_day(NYSE, year, 12, 25));
     print_neighbour("NYSE, next trading day after Dec 25", tc_next_trading_day(NYSE, year, 12, 25));
 }
@@ -103,7 +113,7 @@ static void print_markets(uint32_t year) {
     for (uint32_t market = 0; market < 5; market++) {
         printf("%-6s ", names[market]);
         print_regular_hours(market, year);
-        printf("; %d trading days; holidays: ", count_trading_days(market, year));
+        printf("; %lu trading days; holidays: ", count_trading_days(market, year));
         print_days(is_holiday, market, year);
     }
     print_nyse(year);

@@ -184,15 +184,6 @@ static void records(void) {
     every_record(dates);
 }
 
-/* The next number of a fixed sequence (xorshift). */
-static uint32_t drawn(void) {
-    static uint32_t state = 20250827;
-    state ^= state << 13;
-    state ^= state >> 17;
-    state ^= state << 5;
-    return state;
-}
-
 /* One half are times of the list above, one half any second of the day. */
 static uint32_t drawn_time(void) {
     uint32_t number = drawn();

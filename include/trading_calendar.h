@@ -2,6 +2,7 @@
 #ifndef TRADING_CALENDAR_H
 #define TRADING_CALENDAR_H
 
+#include <stddef.h>
 #include <stdint.h>
 
 #ifdef __cplusplus
@@ -54,6 +55,13 @@ typedef struct {
     tc_date date;
     uint32_t distance, outside;
 } tc_trading_day_result;
+
+/* error is 0 and count is how many trading days there are. Or error is a number of [errors]: with error 1 date is the start of the
+ * count or the 1st of the month, with error 9 count is how many bytes the list takes. Every other field is 0 [host-answers]. */
+typedef struct {
+    uint32_t error, count;
+    tc_date date;
+} tc_count_result;
 
 /* error is 0 and seconds is a time of the day; or error is a number of [errors], and seconds is 0. */
 typedef struct {
@@ -108,6 +116,18 @@ tc_trading_day_result tc_next_trading_day(uint32_t market, uint32_t year, uint32
 /* The last trading day of the market before a date of any year [previous]. The same errors, 6 if no trading day is left down to
  * 0001-01-01. */
 tc_trading_day_result tc_previous_trading_day(uint32_t market, uint32_t year, uint32_t month, uint32_t day);
+
+/* Writes the trading days of the month in ascending order, one byte for each, from the start of out, and answers how many
+ * [month-list]. 23 bytes are enough for every month. out is not null, also if out_length is 0 [host-calls]. Bytes past the answer
+ * stay as they were, and with an error all do [error-writes-nothing]. Error 8 if there is no such market; 1 if the year is outside
+ * 2020 to 2030, with 1970-01-01 where the year and the month have no 1st [month-error-date]; 2 if the month is not 1 to 12; 9 if the
+ * days do not fit into out_length bytes. */
+tc_count_result tc_trading_days_in_month(uint32_t market, uint32_t year, uint32_t month, uint8_t *out, size_t out_length);
+
+/* How many trading days the market has from the start to the end, both included; 0 if the start is after the end [count]. Error 8
+ * if there is no such market, 5 if the start or the end is no date, 1 if the start's year is below 2020 or the end's above 2030. */
+tc_count_result tc_count_trading_days(uint32_t market, uint32_t start_year, uint32_t start_month, uint32_t start_day,
+                                      uint32_t end_year, uint32_t end_month, uint32_t end_day);
 
 /* The hours of the market on a date of any year, be it a trading day or not [trading-hours], with the early closes of the US
  * [early-close]: there regular.end stays, early_close is set, and after_hours begin with it; tc_market_close gives the close.
