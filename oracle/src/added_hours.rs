@@ -1,31 +1,15 @@
 //! Added answers of the calls about hours: their errors 8, 5 and 7, and numbers of absent parts, which are passed over.
 
-use crate::added::NO_MARKETS;
+use crate::added::{NO_DATES, NO_MARKETS};
 use crate::call_hours::{HoursCall, HOURS_CALLS};
 use crate::faults::{self, time_places, Part, Wrong};
-use crate::numbers::{every_market, parts, with_each, without_repeats, Numbers};
+use crate::numbers::{every_market, parts, with_each, without_repeats, Numbers, OnNumbers};
 use crate::row_inputs_hours::WHOLE;
 use crate::tally::Tally;
 
 const WRONG: Wrong = Wrong {
     markets: NO_MARKETS,
-    dates: &[
-        [0, 0, 0],
-        [0, 1, 1],
-        [10000, 1, 1],
-        [(1 << 31) + 2025, 1, 1],
-        [u32::MAX, 1, 1],
-        [2025, 0, 1],
-        [2025, 13, 1],
-        [2025, (1 << 31) + 1, 1],
-        [2025, 1, 0],
-        [2025, 1, 32],
-        [2025, 1, (1 << 31) + 1],
-        [2025, 2, 29],
-        [2024, 2, 30],
-        [1900, 2, 29],
-        [2025, 4, 31],
-    ],
+    dates: NO_DATES,
     times: &[86_400, 86_401, 1 << 17, 1 << 31, u32::MAX],
 };
 
@@ -49,7 +33,9 @@ fn errors(call: HoursCall) -> bool {
     let kinds = faults::kinds(call, &faultless(call), &WRONG);
     kinds.iter().fold(true, |all, kind| {
         let title = format!("{}, error {} for {}", call.name(), kind.error, kind.about);
-        all & check(call, title, &kind.inputs, |_| call.error(kind.error))
+        all & check(call, title, &kind.inputs, |input| {
+            call.error(kind.error, input)
+        })
     })
 }
 
@@ -67,8 +53,8 @@ fn absent_parts(call: HoursCall) -> bool {
 }
 
 /// Compares the library with the answer that is due, and shows what the original does.
-fn check(
-    call: HoursCall,
+pub fn check(
+    call: impl OnNumbers,
     title: String,
     inputs: &[Numbers],
     due: impl Fn(&[u32]) -> Numbers,
@@ -83,7 +69,7 @@ fn check(
 }
 
 /// At the first input; if it cannot be asked there, also at the first where it can.
-fn show_original(call: HoursCall, inputs: &[Numbers]) {
+fn show_original(call: impl OnNumbers, inputs: &[Numbers]) {
     let words = |answer: Option<Numbers>| match answer {
         Some(answer) => format!("{answer:?}"),
         None => "cannot be asked".to_string(),

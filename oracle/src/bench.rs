@@ -4,7 +4,7 @@ use crate::library::*;
 use crate::original::{calendars, days_of, MARKETS};
 use crate::original_hours::{self, time};
 use crate::times::{mean, Days, Times, ROUNDS};
-use crate::{bench_parts, ANSWERED_YEARS};
+use crate::{bench_parts, bench_ranges, ANSWERED_YEARS};
 use chrono::NaiveDate;
 use std::hint::black_box;
 use std::slice;
@@ -35,6 +35,7 @@ pub fn run() {
         TradingCalendar::previous_trading_day,
         tc_previous_trading_day,
     );
+    bench_ranges::run(&days);
     on_days(
         "trading_hours. All days of 2020 to 2030",
         &days,
@@ -116,7 +117,12 @@ fn is_open(days: &Days) {
 }
 
 /// The original and the library on the same inputs.
-fn sides<T>(title: &str, inputs: &[T], original: impl Fn(usize, &T), library: impl Fn(usize, &T)) {
+pub fn sides<T>(
+    title: &str,
+    inputs: &[T],
+    original: impl Fn(usize, &T),
+    library: impl Fn(usize, &T),
+) {
     let (original, library) = measured(inputs, original, library);
     println!("\n{title}, {} inputs:\n", inputs.len());
     println!("| Market | Original, median | least | Library, median | least | Library / original, medians | least |");

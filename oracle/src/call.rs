@@ -130,7 +130,7 @@ pub fn trading_day_result(answer: TradingDayResult) -> Answer {
     [error, year, month, day, distance, outside]
 }
 
-fn year(number: u32) -> Option<i32> {
+pub fn year(number: u32) -> Option<i32> {
     i32::try_from(number).ok()
 }
 

@@ -2,7 +2,9 @@
 
 use crate::call::{calendar, date};
 use crate::library::*;
-use crate::numbers::{hours, hours_of_parts, of_bool, of_hours, of_session, of_time, Numbers};
+use crate::numbers::{
+    hours, hours_of_parts, of_bool, of_hours, of_session, of_time, Numbers, OnNumbers,
+};
 use crate::original::of_result;
 use crate::original_hours::{self as original, record, session, time};
 
@@ -31,8 +33,8 @@ pub const HOURS_CALLS: [HoursCall; 9] = [
     HoursCall::IsOpenAt,
 ];
 
-impl HoursCall {
-    pub fn name(self) -> &'static str {
+impl OnNumbers for HoursCall {
+    fn name(self) -> &'static str {
         match self {
             HoursCall::TradingHours => "trading_hours",
             HoursCall::IsOpen => "is_open",
@@ -46,7 +48,7 @@ impl HoursCall {
         }
     }
 
-    pub fn library(self, input: &[u32]) -> Numbers {
+    fn library(self, input: &[u32]) -> Numbers {
         match (self, input) {
             (HoursCall::TradingHours, &[market, y, m, d]) => {
                 of_hours(tc_trading_hours(market, y, m, d))
@@ -69,8 +71,7 @@ impl HoursCall {
         }
     }
 
-    /// None if the types of the original have no such numbers.
-    pub fn original(self, input: &[u32]) -> Option<Numbers> {
+    fn original(self, input: &[u32]) -> Option<Numbers> {
         Some(match (self, input) {
             (HoursCall::TradingHours, &[market, y, m, d]) => {
                 of_hours(original::trading_hours(&calendar(market)?, date(y, m, d)?))
@@ -105,8 +106,8 @@ impl HoursCall {
         })
     }
 
-    /// The answer with an error that brings nothing with it [reading-nothing].
-    pub fn error(self, number: u32) -> Numbers {
+    /// It brings nothing with it [reading-nothing].
+    fn error(self, number: u32, _: &[u32]) -> Numbers {
         match self {
             HoursCall::TradingHours | HoursCall::TradingHoursNew | HoursCall::WithEarlyClose => {
                 of_hours(HoursResult {

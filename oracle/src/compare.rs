@@ -4,7 +4,8 @@ use crate::library::*;
 use crate::original::{self, days_of, of_result};
 use crate::tally::Tally;
 use crate::{
-    added, added_hours, compare_hours, compare_neighbours, ANSWERED_YEARS, LAST_YEAR, YEARS,
+    added, added_hours, added_ranges, compare_hours, compare_neighbours, compare_ranges,
+    ANSWERED_YEARS, LAST_YEAR, YEARS,
 };
 use chrono::NaiveDate;
 use trading_calendar::{Result, TradingCalendar};
@@ -33,9 +34,10 @@ pub fn run() -> bool {
         ),
         implementations(),
         compare_neighbours::run(),
+        compare_ranges::run(),
         compare_hours::run(),
     ];
-    let added = added::run() & added_hours::run();
+    let added = added::run() & added_ranges::run() & added_hours::run();
     both.into_iter().all(|right| right) && added
 }
 

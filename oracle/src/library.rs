@@ -34,6 +34,14 @@ pub struct TradingDayResult {
 
 #[repr(C)]
 #[derive(Clone, Copy, Debug, Default, PartialEq, Eq)]
+pub struct CountResult {
+    pub error: u32,
+    pub count: u32,
+    pub date: Date,
+}
+
+#[repr(C)]
+#[derive(Clone, Copy, Debug, Default, PartialEq, Eq)]
 pub struct Session {
     pub start: u32,
     pub end: u32,
@@ -86,7 +94,13 @@ pub struct DayAnswer {
 /// A call on a market and a date.
 pub type OnDate<T> = extern "C" fn(u32, u32, u32, u32) -> T;
 
-// Safe, since every call takes any numbers at all.
+/// A lent list is a pointer, which is not null, and a count of elements [host-calls], as those of a slice are.
+#[inline]
+pub fn trading_days_in_month(market: u32, year: u32, month: u32, out: &mut [u8]) -> CountResult {
+    unsafe { tc_trading_days_in_month(market, year, month, out.as_mut_ptr(), out.len()) }
+}
+
+// Those without a pointer are safe, since every call takes any numbers at all.
 unsafe extern "C" {
     pub safe fn tc_nth_weekday_of_month(
         year: u32,
@@ -112,6 +126,22 @@ unsafe extern "C" {
         month: u32,
         day: u32,
     ) -> TradingDayResult;
+    pub safe fn tc_count_trading_days(
+        market: u32,
+        start_year: u32,
+        start_month: u32,
+        start_day: u32,
+        end_year: u32,
+        end_month: u32,
+        end_day: u32,
+    ) -> CountResult;
+    fn tc_trading_days_in_month(
+        market: u32,
+        year: u32,
+        month: u32,
+        out: *mut u8,
+        out_length: usize,
+    ) -> CountResult;
 
     pub safe fn tc_trading_hours(market: u32, year: u32, month: u32, day: u32) -> HoursResult;
     pub safe fn tc_is_open(market: u32, year: u32, month: u32, day: u32, time: u32) -> BoolResult;

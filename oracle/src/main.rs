@@ -2,28 +2,35 @@
 
 mod added;
 mod added_hours;
+mod added_ranges;
 mod bench;
 mod bench_parts;
+mod bench_ranges;
 mod call;
 mod call_hours;
+mod call_ranges;
 mod compare;
 mod compare_hours;
 mod compare_neighbours;
+mod compare_ranges;
 mod compare_records;
 mod faults;
 mod library;
 mod numbers;
 mod original;
 mod original_hours;
+mod original_ranges;
 mod random;
 mod row_inputs;
 mod row_inputs_hours;
 mod row_inputs_neighbours;
+mod row_inputs_ranges;
 mod row_sections_hours;
 mod row_writer;
 mod rows;
 mod rows_hours;
 mod rows_neighbours;
+mod rows_ranges;
 mod tally;
 mod times;
 
@@ -44,13 +51,14 @@ fn main() -> ExitCode {
         ["rows", "holidays"] => written(rows::run()),
         ["rows", "hours"] => written(rows_hours::run()),
         ["rows", "neighbours"] => written(rows_neighbours::run()),
+        ["rows", "ranges"] => written(rows_ranges::run()),
         ["bench"] => {
             bench::run();
             true
         }
         _ => {
             eprintln!(
-                "usage: oracle compare|overflows|bench|rows holidays|rows hours|rows neighbours"
+                "usage: oracle compare|overflows|bench|rows holidays|rows hours|rows neighbours|rows ranges"
             );
             false
         }

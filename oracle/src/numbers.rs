@@ -1,10 +1,20 @@
-//! Inputs and answers of the calls about hours as lists of numbers.
+//! Inputs and answers of the calls about hours, month lists and counts as lists of numbers.
 
 use crate::library::*;
 use std::collections::BTreeSet;
 
 /// The numbers that a call takes, or the fields of its answer, in the order in which C has them.
 pub type Numbers = Vec<u32>;
+
+/// A call on any numbers at all.
+pub trait OnNumbers: Copy {
+    fn name(self) -> &'static str;
+    fn library(self, input: &[u32]) -> Numbers;
+    /// None if the types of the original have no such numbers.
+    fn original(self, input: &[u32]) -> Option<Numbers>;
+    /// The answer with an error that the original does not have.
+    fn error(self, number: u32, input: &[u32]) -> Numbers;
+}
 
 /// The numbers of a record in order, and back.
 pub fn of_record(hours: &Hours) -> [u32; 13] {
@@ -66,6 +76,10 @@ pub fn parts(record: &[u32]) -> Numbers {
 
 pub fn of_bool(BoolResult { error, value, date }: BoolResult) -> Numbers {
     vec![error, value, date.year, date.month, date.day]
+}
+
+pub fn of_count(CountResult { error, count, date }: CountResult) -> Numbers {
+    vec![error, count, date.year, date.month, date.day]
 }
 
 pub fn of_time(TimeResult { error, seconds }: TimeResult) -> Numbers {

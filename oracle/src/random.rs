@@ -1,4 +1,4 @@
-//! Random times and records of hours, the same in every run.
+//! Random times, dates and records of hours, the same in every run.
 
 use crate::library::{Date, Hours, Session};
 use chrono::NaiveDate;
@@ -28,7 +28,7 @@ impl<'a> Random<'a> {
         bits ^ bits >> 31
     }
 
-    fn below(&mut self, end: u32) -> u32 {
+    pub fn below(&mut self, end: u32) -> u32 {
         (self.next() % u64::from(end)) as u32
     }
 
@@ -87,7 +87,7 @@ impl<'a> Random<'a> {
     }
 
     /// Any date of the years 1 to 9999.
-    fn date(&mut self) -> Date {
+    pub fn date(&mut self) -> Date {
         loop {
             let (year, month, day) = (1 + self.below(9999), 1 + self.below(12), 1 + self.below(31));
             if NaiveDate::from_ymd_opt(year as i32, month, day).is_some() {

@@ -2,23 +2,17 @@
 
 use crate::call_hours::HoursCall;
 use crate::faults::{self, time_places, Part};
-use crate::numbers::{every_market, parse, parts, with_each, Numbers};
+use crate::numbers::{every_market, parse, parts, with_each, Numbers, OnNumbers};
 use crate::original::of_date;
 use crate::row_inputs_hours::*;
+use crate::row_writer::{self, section};
 use crate::ANSWERED_YEARS;
 use chrono::{Duration, NaiveDate, Weekday};
 use std::collections::BTreeSet;
 use std::slice;
 use trading_calendar::utils::nth_weekday_of_month;
 
-/// Rows of a call below one heading. With an error it is a rule that the original does not have.
-#[derive(Clone)]
-pub struct Section {
-    pub call: HoursCall,
-    pub about: String,
-    pub error: Option<u32>,
-    pub inputs: Vec<Numbers>,
-}
+pub type Section = row_writer::Section<HoursCall>;
 
 const EXAMPLES: &str = "examples of docs/SCOPE.md";
 const EARLY_CLOSES: &str = "3 July, the day after the 4th Thursday of November, 24 December";
@@ -128,15 +122,6 @@ fn faultless(call: HoursCall, record: &[u32]) -> Numbers {
         HoursCall::TradingHoursNew => parts(record),
         HoursCall::IsEarlyClose | HoursCall::MarketClose => record.to_vec(),
         HoursCall::WithEarlyClose | HoursCall::IsOpenAt => [record, &[EXAMPLE_TIME]].concat(),
-    }
-}
-
-fn section(call: HoursCall, about: &str, inputs: Vec<Numbers>) -> Section {
-    Section {
-        call,
-        about: about.to_string(),
-        error: None,
-        inputs,
     }
 }
 

@@ -1,7 +1,33 @@
 //! Rows of stored answers, to standard output.
 
-use crate::numbers::{parse, Numbers};
+use crate::numbers::{parse, Numbers, OnNumbers};
+use std::collections::BTreeSet;
 use std::io::{self, BufWriter, StdoutLock, Write};
+
+/// Rows of a call below one heading. With an error it is a rule that the original does not have.
+#[derive(Clone)]
+pub struct Section<C> {
+    pub call: C,
+    pub about: String,
+    pub error: Option<u32>,
+    pub inputs: Vec<Numbers>,
+}
+
+pub fn section<C>(call: C, about: &str, inputs: Vec<Numbers>) -> Section<C> {
+    Section {
+        call,
+        about: about.to_string(),
+        error: None,
+        inputs,
+    }
+}
+
+pub fn own_rule<C>(call: C, error: u32, about: &str, inputs: Vec<Numbers>) -> Section<C> {
+    Section {
+        error: Some(error),
+        ..section(call, about, inputs)
+    }
+}
 
 pub struct RowWriter(BufWriter<StdoutLock<'static>>);
 
@@ -27,6 +53,39 @@ impl RowWriter {
         let words =
             |numbers: &[u32]| -> String { numbers.iter().map(|n| format!(" {n}")).collect() };
         writeln!(self.0, "{name}{} ={}", words(input), words(answer))
+    }
+
+    /// Each input once.
+    pub fn sections<C: OnNumbers>(
+        &mut self,
+        sections: impl IntoIterator<Item = Section<C>>,
+    ) -> io::Result<()> {
+        let mut written = BTreeSet::new();
+        for mut section in sections {
+            let name = section.call.name();
+            section
+                .inputs
+                .retain(|input| written.insert((name, input.clone())));
+            self.section(&section)?;
+        }
+        Ok(())
+    }
+
+    fn section<C: OnNumbers>(&mut self, section: &Section<C>) -> io::Result<()> {
+        let Section { call, about, .. } = section;
+        let name = call.name();
+        match section.error {
+            Some(error) => self.own_rule(name, error, about),
+            None => self.heading(&format!("{name}: {about}")),
+        }?;
+        for input in &section.inputs {
+            let answer = match section.error {
+                Some(error) => call.error(error, input),
+                None => call.original(input).expect("an answer"),
+            };
+            self.row(name, input, &answer)?;
+        }
+        Ok(())
     }
 
     /// What is right, and a row with another answer than is due.
