@@ -16,7 +16,7 @@ enum { MARKETS = 5, DRAWN = 1000, DRAWN_SHORT = 3000, SHORT = 62 };
 /* The laws, and how many comparisons are meant. Where that depends on the trading days, the months or the split dates, they are
  * added for each range. */
 static tally laws[LAWS] = {
-    [DAY] = {.name = "the days of 2020 to 2030 answer", .meant = 5ul * DAYS},
+    [DAY] = {.name = "error 1 outside 2020 to 2030", .meant = 5ul * DAYS},
     [FORWARD] = {.name = "[agreement-forward]", .meant = RANGES},
     [BACKWARD] = {.name = "[agreement-backward]", .meant = RANGES},
     [NEIGHBOUR] = {.name = "[agreement-call]"},
@@ -36,6 +36,7 @@ typedef struct {
     int count, items[ANSWERED];
 } list;
 
+/* In the years of these days. */
 static uint32_t month_length(uint32_t year, uint32_t month) {
     static const uint32_t lengths[] = {31, 28, 31, 30, 31, 30, 31, 31, 30, 31, 30, 31};
     return month == 2 && year % 4 == 0 ? 29 : lengths[month - 1];

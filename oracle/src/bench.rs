@@ -124,7 +124,8 @@ pub fn sides<T>(
     library: impl Fn(usize, &T),
 ) {
     let (original, library) = measured(inputs, original, library);
-    println!("\n{title}, {} inputs:\n", inputs.len());
+    let plural = if inputs.len() == 1 { "" } else { "s" };
+    println!("\n{title}, {} input{plural}:\n", inputs.len());
     println!("| Market | Original, median | least | Library, median | least | Library / original, medians | least |");
     println!("|---|---|---|---|---|---|---|");
     for (market, (original, library)) in MARKETS.iter().zip(original.iter().zip(&library)) {

@@ -16,8 +16,8 @@ use chrono::{Duration, NaiveDate};
 use std::ops::RangeInclusive;
 use trading_calendar::TradingCalendar;
 
-/// The most bytes that a month is given.
-const ROOM: u32 = 31;
+/// The most bytes that a month is given, more than it has days.
+const ROOM: u32 = 33;
 /// Ends that each start is counted to, in days after it.
 const NEAR: RangeInclusive<i64> = -3..=40;
 /// Random counts of each market.
