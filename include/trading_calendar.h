@@ -120,8 +120,8 @@ tc_trading_day_result tc_previous_trading_day(uint32_t market, uint32_t year, ui
 /* Writes the trading days of the month in ascending order, one byte for each, from the start of out, and answers how many
  * [month-list]. 23 bytes are enough for every month. out is not null, also if out_length is 0 [host-calls]. Bytes past the answer
  * stay as they were, and with an error all do [error-writes-nothing]. Error 8 if there is no such market; 1 if the year is outside
- * 2020 to 2030, with 1970-01-01 where the year and the month have no 1st [month-error-date]; 2 if the month is not 1 to 12; 9 if the
- * days do not fit into out_length bytes. */
+ * 2020 to 2030, with 1970-01-01 where the year and the month have no 1st [month-error-date]; 2 if the month is not 1 to 12; 9 if
+ * the days do not fit into out_length bytes. */
 tc_count_result tc_trading_days_in_month(uint32_t market, uint32_t year, uint32_t month, uint8_t *out, size_t out_length);
 
 /* How many trading days the market has from the start to the end, both included; 0 if the start is after the end [count]. Error 8

@@ -8,10 +8,10 @@ pub const HEAD: &str = "\
 # count_trading_days MARKET YEAR MONTH DAY YEAR MONTH DAY = error, count, year, month, day
 #
 # Made by `oracle/run FOLDER rows ranges`, where FOLDER is the repository danjloveless/trading-calendar at commit 7b03202e8e: the
-# answers of its TradingCalendar, its list of dates as the bytes at the start of the buffer. Its source is unchanged; its dependencies
-# are the stand-ins of oracle/stand-ins, for chrono as in docs/SCOPE.md [oracle]. Error 1 is its DateOutOfRange, error 2 its
-# InvalidDateCalculation. Errors 8, 5 and 9, and error 1 of a month whose year is outside 1 to 9999, are rules of the library, as their
-# headings say.
+# answers of its TradingCalendar, its list of dates as the bytes at the start of the buffer. Its source is unchanged; its
+# dependencies are the stand-ins of oracle/stand-ins, for chrono as in docs/SCOPE.md [oracle]. Error 1 is its DateOutOfRange, error 2
+# its InvalidDateCalculation. Errors 8, 5 and 9, and error 1 of a month whose year is outside 1 to 9999, are rules of the library, as
+# their headings say.
 # Each kind of row is at the end five times more, wrong on purpose, below a comment that says what is right. replay's expected
 # output has exactly these as differing.
 ";
