@@ -64,7 +64,7 @@ pub fn trading_days_in_month(market: u32, year: u32, month: u32, out: &mut [u8])
     CountResult::Ok(count as u32)
 }
 
-// [count]: or the first of errors 8, 5 and 1 that applies, 5 for the start or the end.
+// [count]: how many days trade from the start to the end, or the first of errors 8, 5 and 1 that applies.
 pub fn count_trading_days(
     market: u32,
     start_year: u32,

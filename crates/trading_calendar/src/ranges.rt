@@ -5,7 +5,7 @@ ghost use Rattle.answers.specs.Answers.{countAnswer};
 use answers::counts::CountAnswer;
 use answers::counts::count_answer;
 
-// [month-list]: how many days were written to the buffer, one byte for each; or the first of errors 8, 1, 2 and 9 that applies, with
+// [month-list]: how many days were written to the buffer, one byte for each, or the first of errors 8, 1, 2 and 9 that applies, with
 // which nothing is written [error-writes-nothing].
 #[no_mangle]
 pub extern "C" fn tc_trading_days_in_month(
@@ -20,7 +20,7 @@ pub extern "C" fn tc_trading_days_in_month(
     count_answer(calendar::counts::trading_days_in_month(market, year, month, out))
 }
 
-// [count]: or the first of errors 8, 5 and 1 that applies.
+// [count]: how many days trade from the start to the end, both included, or the first of errors 8, 5 and 1 that applies.
 #[no_mangle]
 pub extern "C" fn tc_count_trading_days(
     market: u32,

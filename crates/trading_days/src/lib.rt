@@ -1,5 +1,5 @@
-// The trading days of a range of days and of a month, as src/calendar.rs of the Rust finds them past its checks. Labels in brackets
-// are those of docs/SCOPE.md.
+// The trading days of a range and of a month, as src/calendar.rs of the Rust finds them past its checks, and the buffer that they are
+// written to. Labels in brackets are those of docs/SCOPE.md.
 ghost use mathlib.Core.Path.{_≡_};
 ghost use mathlib.Core.Bool.{true};
 ghost use mathlib.Core.List.{_++_};
@@ -14,7 +14,7 @@ use markets::is_trading_day;
 // How many days a month has at most.
 pub const LONGEST_MONTH: usize = 31;
 
-// The trading days of a month, by their numbers in it: the first count bytes, and zeros after them.
+// The trading days of a month, by their numbers in it: the first count bytes.
 pub struct MonthDays {
     pub count: usize,
     pub days: [u8; LONGEST_MONTH],
