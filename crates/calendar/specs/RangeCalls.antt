@@ -11,7 +11,7 @@ use Rattle.utils.specs.declared.OptionalDay.{OptionalDay}
 use Rattle.utils.specs.declared.OptionalDay.the-variants.{Day, None}
 use Rattle.markets.specs.Markets.{isTradingDay}
 use Rattle.ranges.specs.Ranges.{nextTradingDay, previousTradingDay, countTradingDays}
-unfoldable pub use Rattle.trading_days.specs.Month.{monthList}
+use Rattle.trading_days.specs.Month.{monthList}
 use Rattle.error.specs.declared.CountResult.{CountResult}
 use Rattle.error.specs.declared.CalendarError.the-variants.{UnknownMarket, DateOutOfRange, InvalidDateCalculation, NoTradingDayFound, BufferTooSmall}
 use Rattle.calendar.specs.declared.TradingDay.{TradingDay}
