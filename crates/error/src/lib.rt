@@ -1,6 +1,6 @@
 // The errors of the calls, as src/error.rs of the Rust. Labels in brackets are those of docs/SCOPE.md.
 ghost use mathlib.Core.Path.{_≡_};
-ghost use Rattle.error.specs.Errors.{errorNumber, errorDate, errorCount};
+ghost use Rattle.error.specs.Errors.{onlyNumber, errorFields, errorNumber, errorCount, errorDate};
 use gregorian::Date;
 use gregorian::NO_DATE;
 
@@ -34,53 +34,66 @@ pub enum CountResult {
     Err(CalendarError),
 }
 
-// [errors]
+// [errors]: the number of an error, the number of bytes returned with error 9, and the date returned with error 1; 0 and no date
+// where nothing is returned [reading-nothing].
+struct ErrorFields {
+    number: u32,
+    count: u32,
+    date: Date,
+}
+
+fn only_number(number: u32) -> ErrorFields
+    ensures { λ r. ⌜ r ≡ onlyNumber number ⌝ }
+{
+    ErrorFields {
+        number,
+        count: 0,
+        date: NO_DATE,
+    }
+}
+
+fn fields(e: CalendarError) -> ErrorFields
+    ensures { λ r. ⌜ r ≡ errorFields e ⌝ }
+{
+    match e {
+        CalendarError::UnknownMarket => only_number(8),
+        CalendarError::InvalidDate => only_number(5),
+        CalendarError::TimeOutOfRange => only_number(7),
+        CalendarError::DateOutOfRange(date) => ErrorFields {
+            number: 1,
+            count: 0,
+            date,
+        },
+        CalendarError::InvalidDateCalculation => only_number(2),
+        CalendarError::NoTradingDayFound => only_number(6),
+        CalendarError::BufferTooSmall(needed) => ErrorFields {
+            number: 9,
+            count: needed,
+            date: NO_DATE,
+        },
+        CalendarError::InvalidSession => only_number(3),
+        CalendarError::InvalidTime => only_number(4),
+    }
+}
+
 pub fn number(e: CalendarError) -> u32
     ensures { λ r. ⌜ r ≡ errorNumber e ⌝ }
 {
-    match e {
-        CalendarError::UnknownMarket => 8,
-        CalendarError::InvalidDate => 5,
-        CalendarError::TimeOutOfRange => 7,
-        CalendarError::DateOutOfRange(_) => 1,
-        CalendarError::InvalidDateCalculation => 2,
-        CalendarError::NoTradingDayFound => 6,
-        CalendarError::BufferTooSmall(_) => 9,
-        CalendarError::InvalidSession => 3,
-        CalendarError::InvalidTime => 4,
-    }
+    let fields = fields(e);
+    fields.number
 }
 
-// [errors]: the date returned with the error; none where nothing is returned [reading-nothing].
-pub fn date(e: CalendarError) -> Date
-    ensures { λ r. ⌜ r ≡ errorDate e ⌝ }
-{
-    match e {
-        CalendarError::UnknownMarket => NO_DATE,
-        CalendarError::InvalidDate => NO_DATE,
-        CalendarError::TimeOutOfRange => NO_DATE,
-        CalendarError::DateOutOfRange(date) => date,
-        CalendarError::InvalidDateCalculation => NO_DATE,
-        CalendarError::NoTradingDayFound => NO_DATE,
-        CalendarError::BufferTooSmall(_) => NO_DATE,
-        CalendarError::InvalidSession => NO_DATE,
-        CalendarError::InvalidTime => NO_DATE,
-    }
-}
-
-// [errors]: the number of bytes returned with error 9; 0 with the others [reading-nothing].
 pub fn count(e: CalendarError) -> u32
     ensures { λ r. ⌜ r ≡ errorCount e ⌝ }
 {
-    match e {
-        CalendarError::UnknownMarket => 0,
-        CalendarError::InvalidDate => 0,
-        CalendarError::TimeOutOfRange => 0,
-        CalendarError::DateOutOfRange(_) => 0,
-        CalendarError::InvalidDateCalculation => 0,
-        CalendarError::NoTradingDayFound => 0,
-        CalendarError::BufferTooSmall(needed) => needed,
-        CalendarError::InvalidSession => 0,
-        CalendarError::InvalidTime => 0,
-    }
+    let fields = fields(e);
+    fields.count
+}
+
+pub fn date(e: CalendarError) -> Date
+    ensures { λ r. ⌜ r ≡ errorDate e ⌝ }
+{
+    let fields = fields(e);
+    let date = fields.date;
+    date
 }

@@ -11,7 +11,7 @@ use Rattle.ranges.specs.Ranges.{Every, countFrom, countTradingDays}
 use Rattle.error.specs.declared.BoolResult.{BoolResult}
 use Rattle.error.specs.declared.CountResult.{CountResult}
 use Rattle.error.specs.declared.CalendarError.the-variants.{DateOutOfRange}
-use Rattle.error.specs.Errors.{errorNumber, errorDate, errorCount}
+use Rattle.error.specs.Errors.{errorFields}
 use Rattle.calendar.specs.declared.TradingDayResult.{TradingDayResult}
 use Rattle.calendar.specs.Calls.{isSupported, tryDay, checkedDay, supportedDay}
 use Rattle.calendar.specs.RangeCalls.{distanceOf}
@@ -63,7 +63,7 @@ all-hold [] q = tt
 all-hold (e ∷ rows) q = (holds e cc, all-hold rows cc)
 
 all-computed : map computed examples ≡ examples
-unfolding computed holidayRule tradingRule closedOptional closedNextResult countFrom distanceOf isSupported checkedDay supportedDay flagOf boolAnswer tradingDayAnswer countAnswer errorNumber errorDate errorCount
+unfolding computed holidayRule tradingRule closedOptional closedNextResult countFrom distanceOf isSupported checkedDay supportedDay flagOf boolAnswer tradingDayAnswer countAnswer errorFields
 all-computed = refl
 
 pub examples-hold : ExamplesHold

@@ -1,47 +1,12 @@
--- `error::number` meets its contract: each arm.
-use mathlib.Core.Path.{ap, sym}
+-- `error::number` meets its contract: one of the fields.
+use mathlib.Core.Path.{ap}
 use borrow.Author.Needs.{needs}
-use Rattle.error.specs.Errors.{errorNumber}
+use Rattle.error.specs.declared.ErrorFields.{ErrorFields}
 use Rattle.error.proofs.number.Statement.{statement}
 use Rattle.error.proofs.number.Tie as tie
 
 returns : tie.Need-returns
-unfolding errorNumber
-returns c = ap errorNumber (sym (c .enum-told .given .1))
-
-returns-2 : tie.Need-returns-2
-unfolding errorNumber
-returns-2 c = ap errorNumber (sym (c .enum-told2 .given .1))
-
-returns-3 : tie.Need-returns-3
-unfolding errorNumber
-returns-3 c = ap errorNumber (sym (c .enum-told3 .given .1))
-
-returns-4 : tie.Need-returns-4
-unfolding errorNumber
-returns-4 c = ap errorNumber (sym (c .enum-told4 .given .1))
-
-returns-5 : tie.Need-returns-5
-unfolding errorNumber
-returns-5 c = ap errorNumber (sym (c .enum-told5 .given .1))
-
-returns-6 : tie.Need-returns-6
-unfolding errorNumber
-returns-6 c = ap errorNumber (sym (c .enum-told6 .given .1))
-
-returns-7 : tie.Need-returns-7
-unfolding errorNumber
-returns-7 c = ap errorNumber (sym (c .enum-told7 .given .1))
-
-returns-8 : tie.Need-returns-8
-unfolding errorNumber
-returns-8 c = ap errorNumber (sym (c .enum-told8 .given .1))
-
-returns-9 : tie.Need-returns-9
-unfolding errorNumber
-returns-9 c = ap errorNumber (sym (c .enum-told9 .given .1))
+returns c = ap (λ (f : ErrorFields). f .number) (c .fields .ensures)
 
 pub number-spec : {M : Type 1} → statement M
-number-spec =
-    tie.close
-    (tie.spec (search needs) (search needs) (search needs) (search needs) (search needs) (search needs) (search needs) (search needs) (search needs) returns returns-2 returns-3 returns-4 returns-5 returns-6 returns-7 returns-8 returns-9)
+number-spec = tie.close (tie.spec (search needs) returns)
