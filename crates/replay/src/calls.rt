@@ -9,6 +9,7 @@ use crate::hours::trading_hours_new;
 use crate::lists;
 use crate::name::Name;
 use crate::numbers::Numbers;
+use crate::numbers::push_date;
 use crate::ranges;
 use answers::BoolAnswer;
 use answers::OptionalDate;
@@ -188,34 +189,20 @@ fn nth_weekday_of_month(year: u32, month: u32, weekday: u32, nth: u32) -> Number
     optional_date(tc_nth_weekday_of_month(year, month, weekday, nth as u8))
 }
 
-// The fields of a C struct, in order; those about hours are in the module `hours`, and those of the month list and the count in
-// `ranges`.
+// The fields of a C struct, in order; those about hours, months and ranges are in modules of their own.
 fn optional_date(answer: OptionalDate) -> Numbers {
     let date = answer.date;
-    Numbers::new()
-        .push(answer.found)
-        .push(date.year)
-        .push(date.month)
-        .push(date.day)
+    push_date(Numbers::new().push(answer.found), date)
 }
 
 fn bool_answer(answer: BoolAnswer) -> Numbers {
     let date = answer.date;
-    Numbers::new()
-        .push(answer.error)
-        .push(answer.value)
-        .push(date.year)
-        .push(date.month)
-        .push(date.day)
+    push_date(Numbers::new().push(answer.error).push(answer.value), date)
 }
 
 fn trading_day_answer(answer: TradingDayAnswer) -> Numbers {
     let date = answer.date;
-    Numbers::new()
-        .push(answer.error)
-        .push(date.year)
-        .push(date.month)
-        .push(date.day)
+    push_date(Numbers::new().push(answer.error), date)
         .push(answer.distance)
         .push(answer.outside)
 }

@@ -1,5 +1,6 @@
 // Rows about hours: the arguments of a call from the numbers of a row, and the fields of each C struct, in order.
 use crate::numbers::Numbers;
+use crate::numbers::push_date;
 use answers::records::Hours;
 use answers::trading_hours::HoursAnswer;
 use answers::trading_hours::SessionAnswer;
@@ -64,12 +65,7 @@ pub fn hours_answer(answer: HoursAnswer) -> Numbers {
     let pre_market = hours.pre_market;
     let regular = hours.regular;
     let after_hours = hours.after_hours;
-    let list = Numbers::new()
-        .push(answer.error)
-        .push(date.year)
-        .push(date.month)
-        .push(date.day)
-        .push(hours.has_pre_market);
+    let list = push_date(Numbers::new().push(answer.error), date).push(hours.has_pre_market);
     let list = push_session(push_session(list, pre_market), regular);
     push_session(list.push(hours.has_after_hours), after_hours)
         .push(hours.has_early_close)

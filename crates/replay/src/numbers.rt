@@ -3,6 +3,7 @@ ghost use mathlib.Core.Path.{_≡_};
 ghost use mathlib.Core.Bool.{true};
 ghost use Prim.Native.Nat.{_<_};
 ghost use Rattle.replay.specs.Decimal.{appended};
+use gregorian::Date;
 
 // How many numbers a list holds at most. A row with more on one side of its `=` is malformed.
 pub const CAPACITY: usize = 32;
@@ -36,6 +37,10 @@ impl Numbers {
         }
         self
     }
+}
+
+pub fn push_date(list: Numbers, date: Date) -> Numbers {
+    list.push(date.year).push(date.month).push(date.day)
 }
 
 pub fn append_digit(value: u32, digit: u8) -> Appended

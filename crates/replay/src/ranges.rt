@@ -1,6 +1,7 @@
 // Rows about the trading days of a month and of a range: the fields of the C struct, in order, and the bytes of the buffer.
 ghost use Prim.Native.Nat.{_≤_};
 use crate::numbers::Numbers;
+use crate::numbers::push_date;
 use answers::counts::CountAnswer;
 use trading_calendar::ranges::tc_count_trading_days;
 use trading_calendar::ranges::tc_trading_days_in_month;
@@ -13,12 +14,7 @@ const UNTOUCHED: u8 = 255;
 
 fn count_answer(answer: CountAnswer) -> Numbers {
     let date = answer.date;
-    Numbers::new()
-        .push(answer.error)
-        .push(answer.count)
-        .push(date.year)
-        .push(date.month)
-        .push(date.day)
+    push_date(Numbers::new().push(answer.error).push(answer.count), date)
 }
 
 fn wide(byte: u8) -> u32 {
