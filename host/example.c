@@ -1,5 +1,5 @@
 /* Prints the moving days of a year that the markets' rules rest on; for each market its regular hours, its trading days, counted,
- * and its holidays, be they on weekends or not; when NYSE closes early, its trading days in December and around the 25th: usage:
+ * and its holidays, be they on weekends or not; when NYSE closes early, its trading days in December and beside the 25th. Usage:
  * example YEAR. */
 #include "trading_calendar.h"
 

@@ -68,7 +68,7 @@ static tc_trading_day_result neighbour_of(neighbour *call, uint32_t market, int 
 }
 
 /* In other years tc_is_trading_day gives error 1; there the day trades if it is the neighbour of the day beyond it. The first and
- * the last day have none here, and are between no two days that are asked about. */
+ * the last day of the table have no day beyond them and count as closed; no call that is made reaches them. */
 static int trades_beside(uint32_t market, int index) {
     if (index == 0 || index == DAYS - 1) return 0;
     if (index < FIRST) return is_same(neighbour_of(tc_next_trading_day, market, index - 1).date, days[index]);

@@ -8,7 +8,7 @@
 
 enum call { MONTH, COUNT, UP_TO_23, CALLS };
 
-/* The numbers of dates that the loops below make, and how many counts of each kind are drawn. */
+/* How many edge dates there are, and how many counts of each kind are drawn. */
 enum { EDGES = 40, DRAWN_DATES = 40000, DRAWN_LIMITS = 100000 };
 
 /* The calls and the law, and how many comparisons the loops below make. A month is asked for twice with each length. */
@@ -46,7 +46,7 @@ static void month_over(uint8_t bytes, uint32_t market, uint32_t year, uint32_t m
     compare(&calls[MONTH], in, of_month(answer, area, place, size), of_month(expected, plain_area, place, size));
 }
 
-/* Every byte that is written is another than the one before in one of the two. */
+/* Over 0 and over 255: each byte that is written changes one of the two areas. */
 static void month_of(uint32_t market, uint32_t year, uint32_t month, size_t length) {
     month_over(0, market, year, month, length);
     month_over(UINT8_MAX, market, year, month, length);

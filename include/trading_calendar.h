@@ -57,7 +57,8 @@ typedef struct {
 } tc_trading_day_result;
 
 /* error is 0 and count is how many trading days there are. Or error is a number of [errors]: with error 1 date is the start of the
- * count or the 1st of the month, with error 9 count is how many bytes the list takes. Every other field is 0 [host-answers]. */
+ * count or the 1st of the month (1970-01-01 where there is none), with error 9 count is how many bytes the list takes. Every other
+ * field is 0 [host-answers]. */
 typedef struct {
     uint32_t error, count;
     tc_date date;

@@ -94,7 +94,7 @@ pub struct DayAnswer {
 /// A call on a market and a date.
 pub type OnDate<T> = extern "C" fn(u32, u32, u32, u32) -> T;
 
-/// A lent list is a pointer, which is not null, and a count of elements [host-calls], as those of a slice are.
+/// A lent list is a pointer and a count of elements. A slice's pointer is not null, also if it is empty, as [host-calls] asks.
 #[inline]
 pub fn trading_days_in_month(market: u32, year: u32, month: u32, out: &mut [u8]) -> CountResult {
     unsafe { tc_trading_days_in_month(market, year, month, out.as_mut_ptr(), out.len()) }

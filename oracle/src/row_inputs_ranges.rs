@@ -56,7 +56,7 @@ pub const RANGES: [(&str, &[[u32; 6]]); 6] = [
     ),
     ("all years, and all but their ends", &ALL_YEARS),
     (
-        "one day: a Monday, 25 December, a leap day; a weekend; a week",
+        "one day: a Monday, 25 December, a leap day, the first and the last of 2020 to 2030; a weekend; a week",
         &[
             [2025, 3, 10, 2025, 3, 10],
             [2025, 12, 25, 2025, 12, 25],
@@ -68,7 +68,7 @@ pub const RANGES: [(&str, &[[u32; 6]]); 6] = [
         ],
     ),
     (
-        "around 10 days without trading of TSE",
+        "around the 10 days on which TSE does not trade",
         &[
             [2022, 4, 28, 2022, 5, 9],
             [2022, 4, 29, 2022, 5, 8],

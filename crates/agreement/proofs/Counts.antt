@@ -12,10 +12,11 @@ use Rattle.markets.specs.Markets.{isTradingDay}
 use Rattle.ranges.specs.Ranges.{Every, countTradingDays, parts, sumOf}
 use Rattle.ranges.specs.Agreement.{Splits, countOf}
 use Rattle.ranges.proofs.Counts.{count-none, splits-order}
+use Rattle.longest_run.proofs.Markets.{bounds}
 use Rattle.error.specs.declared.CountResult.{CountResult}
 use Rattle.calendar.proofs.CountLaws.{count-of-dates}
 use Rattle.agreement.specs.CallsAgree.{countCall, Part, partsOf, SplitDates}
-use Rattle.agreement.proofs.Dates.{low, high, bounds, year-from, year-to}
+use Rattle.agreement.proofs.Dates.{low, high, year-from, year-to}
 
 -- The split dates as day numbers.
 pub splits-of : (first : Date) (splits : List Date) (last : Date) → SplitDates first splits last → Splits (number first) (map number splits) (number last)

@@ -23,9 +23,9 @@ low = dayNumber 2020 1 1
 abbrev pub high : ℕ
 high = dayNumber 2030 12 31
 
-pub bounds : (low ≡ 737425) × (high ≡ 741442) × (suc (total yearLength 2019) ≡ 737425) × (total yearLength 2030 ≡ 741442)
+year-ends : (suc (total yearLength 2019) ≡ low) × (total yearLength 2030 ≡ high)
 unfolding total yearLength leapDay leap monthLength dayNumber
-bounds = (refl, refl, refl, refl)
+year-ends = (refl, refl)
 
 -- What a date has to do with 2020 to 2030, by its year and by its number.
 module _ (t : Date) (d : isDateOf t ≡ true) where
@@ -43,16 +43,16 @@ module _ (t : Date) (d : isDateOf t ≡ true) where
       omega (arith, day-of-year (t .year) (t .month) (t .day) exists, total-next yearLength (t .year) (exists .y-low), total-mono yearLength (t .year) y h)
 
   pub number-from : 2020 ≤ t .year → low ≤ number t
-  number-from h = omega (arith, bounds, after-year 2019 h)
+  number-from h = omega (arith, year-ends, after-year 2019 h)
 
   pub number-to : t .year ≤ 2030 → number t ≤ high
-  number-to h = omega (arith, bounds, up-to-year 2030 h)
+  number-to h = omega (arith, year-ends, up-to-year 2030 h)
 
   pub year-from : low ≤ number t → 2020 ≤ t .year
-  year-from h = ⊎-elim (λ (a : t .year ≤ 2019). absurd (omega (arith, bounds, up-to-year 2019 a))) (λ (a : 2019 < t .year). a) (order (t .year) 2019)
+  year-from h = ⊎-elim (λ (a : t .year ≤ 2019). absurd (omega (arith, year-ends, up-to-year 2019 a))) (λ (a : 2019 < t .year). a) (order (t .year) 2019)
 
   pub year-to : number t ≤ high → t .year ≤ 2030
-  year-to h = ⊎-elim (λ (a : t .year ≤ 2030). a) (λ (a : 2030 < t .year). absurd (omega (arith, bounds, after-year 2030 a))) (order (t .year) 2030)
+  year-to h = ⊎-elim (λ (a : t .year ≤ 2030). a) (λ (a : 2030 < t .year). absurd (omega (arith, year-ends, after-year 2030 a))) (order (t .year) 2030)
 
 -- The trading days of a range, as dates, ascend.
 pub ascending : (p : ℕ → Bool) (k a : ℕ) → 1 ≤ a → Ascending (map dateOf (filter p (daysFrom a k)))

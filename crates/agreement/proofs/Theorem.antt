@@ -11,15 +11,15 @@ use Rattle.gregorian.specs.declared.Date.{Date}
 use Rattle.gregorian.specs.Calendar.{monthLength, dayNumber, firstDay, lastDay, IsDate, number, dayAfter, dateOf, dayBefore}
 use Rattle.gregorian.proofs.Laws.{is-date, date-of-number}
 use Rattle.markets.specs.Markets.{isTradingDay}
-use Rattle.ranges.specs.Ranges.{tradingDays, countTradingDays, parts}
+use Rattle.ranges.specs.Ranges.{tradingDays, countTradingDays}
 use Rattle.ranges.specs.Agreement.{Agreement, Traversal, NextCall, PreviousCall, Tile}
 use Rattle.ranges.proofs.Lists.{map-reverse}
 use Rattle.ranges.proofs.Months.{limited, joined-days}
-use Rattle.longest_run.proofs.Markets.{markets-agree}
+use Rattle.longest_run.proofs.Markets.{bounds, markets-agree}
 use Rattle.error.specs.declared.CountResult.{CountResult}
 use Rattle.agreement.specs.CallsAgree.{IsRange, tradingDates, Next, Previous, Month, monthsFrom, monthsOf, limitToRange, MonthLists, SplitDates, PartCounts, CallsAgree, AllCallsAgree}
 use Rattle.calendar.proofs.CallLaws.{supported-years}
-use Rattle.agreement.proofs.Dates.{low, high, bounds, number-from, number-to, ascending, months-ordered}
+use Rattle.agreement.proofs.Dates.{low, high, number-from, number-to, ascending, months-ordered}
 use Rattle.agreement.proofs.Traversals.{as-dates, next-answer, previous-answer}
 use Rattle.agreement.proofs.Months.{MonthsInYears, monthRange, listed, later-in-month, number-from-day, tile, all-read, joined-dates, limited-dates}
 use Rattle.agreement.proofs.Counts.{splits-of, counted, empty-part, countOfPart, part-counts}

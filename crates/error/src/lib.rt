@@ -42,6 +42,7 @@ struct ErrorFields {
     date: Date,
 }
 
+// An error with which nothing is returned.
 fn only_number(number: u32) -> ErrorFields
     ensures { λ r. ⌜ r ≡ onlyNumber number ⌝ }
 {

@@ -1,6 +1,6 @@
 -- No run of non-trading days of a market is longer than ten, and so the ways to its trading days agree.
 -- Assumes nothing.
-use Prim.Native.Nat.{ℕ, suc, _+_, _-_, _≤_}
+use Prim.Native.Nat.{ℕ, suc, _+_}
 use mathlib.Core.Path.{_≡_, refl, ap, _∙_, subst}
 use mathlib.Core.Bool.{true}
 use lib.Dec.{lit≤}
@@ -30,7 +30,7 @@ Bounds =
     (suc (before 2019) ≡ dayNumber 2019 1 1) × (before (2019 + 13) ≡ dayNumber 2031 12 31) × (dayNumber 2019 1 1 ≡ 737060)
     × (dayNumber 2020 1 1 ≡ 737425) × (dayNumber 2030 12 31 ≡ 741442) × (dayNumber 2031 12 31 ≡ 741807)
 
-bounds : Bounds
+pub bounds : Bounds
 unfolding total yearLength leapDay leap monthLength dayNumber
 bounds = (refl, refl, refl, refl, refl, refl)
 

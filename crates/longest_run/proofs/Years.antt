@@ -1,9 +1,9 @@
 -- Which days of whole years trade, one year after the other, in a form that can be computed.
 -- Assumes nothing.
 use Prim.Native.Nat.{ℕ, zero, suc, _+_, _-_, _≤_, _<_}
-use mathlib.Core.Path.{_≡_, refl, sym, ap, ap₂, _∙_}
+use mathlib.Core.Path.{_≡_, sym, ap, ap₂, _∙_}
 use mathlib.Core.Bool.{Bool, not, _&&_}
-use mathlib.Core.List.{List, [], _∷_, _++_, map, map-append}
+use mathlib.Core.List.{List, [], _++_, map, map-append}
 use native.Mathlib.Omega.{arith}
 use Rattle.gregorian.specs.Calendar.{total, yearLength, lastYear, dateOf}
 use Rattle.gregorian.proofs.Total.{total-next, total-mono}

@@ -38,7 +38,7 @@ unfolding filter
 filter-same p q [] e = refl
 filter-same p q (x ∷ l) e = ap₂ (λ (t : Bool) (r : List _). keep t x r) (e .0) (filter-same p q l (e .1))
 
--- Where each item passes the filter keeps the list, and where each fails it keeps nothing.
+-- Where each item passes, the filter keeps the list; where each fails, it keeps nothing.
 pub all-pass : {A : Type 0} (p : A → Bool) (l : List A) → Every (λ x. p x ≡ true) l → filter p l ≡ l
 unfolding filter
 all-pass p [] e = refl

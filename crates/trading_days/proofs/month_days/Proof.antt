@@ -7,7 +7,7 @@ use mathlib.Core.Logic.{⊎-elim}
 use lib.ListN.{length, take, set, length-set}
 use native.Mathlib.Omega.{arith}
 use borrow.Author.Needs.{needs}
-use Rattle.gregorian.specs.Calendar.{lastDay, monthLength, dayNumber}
+use Rattle.gregorian.specs.Calendar.{lastDay, dayNumber}
 use Rattle.gregorian.proofs.Laws.{is-date}
 use Rattle.gregorian.proofs.Formulas.{month-high}
 use Rattle.markets.specs.Markets.{isTradingDay}

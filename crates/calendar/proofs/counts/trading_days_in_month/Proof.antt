@@ -9,7 +9,6 @@ use native.Mathlib.Omega.{arith}
 use borrow.Author.Tests.{not-true, not-false}
 use borrow.Author.Needs.{needs}
 use denote.Ref.{now}
-use Rattle.gregorian.specs.Calendar.{isDate}
 use Rattle.calendar.specs.Calls.{isSupported}
 use Rattle.calendar.proofs.MonthLaws.{first-is-date, month-error-8, month-error-1, month-error-2, month-error-9, month-written}
 use Rattle.calendar.proofs.counts.trading_days_in_month.Statement.{statement}
