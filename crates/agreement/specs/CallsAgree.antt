@@ -47,8 +47,8 @@ abbrev pub previousCall : ℕ → Date → TradingDayResult
 previousCall market t = previousTradingDayResult market (t .year) (t .month) (t .day)
 
 -- [agreement-call], [agreement-no-error]: a call ("step") gives no error and answers a date that trades. `earlier` and `later` are the
--- date given and the answer, the earlier one first. At most ten days are strictly between them, and none of these trades; the distance is one more
--- than their number, and it is the number of days from the one to the other.
+-- date given and the answer, the earlier one first. At most ten days are strictly between them, and none of these trades; the
+-- distance is one more than their number, and it is the number of days from the one to the other.
 pub record NeighbourAnswer (market : ℕ) (result : TradingDayResult) (answer earlier later : Date) : Type 0 where
   pub distance : ℕ
   pub outside : Bool
