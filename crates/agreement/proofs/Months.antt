@@ -15,10 +15,10 @@ use Rattle.gregorian.proofs.Laws.{date-by, month-low, date-of-number, number-of
 use Rattle.utils.specs.Weekday.{nextMonth, nextYear}
 use Rattle.utils.proofs.WeekdayLaws.{month-end}
 use Rattle.markets.specs.Markets.{isTradingDay}
-use Rattle.ranges.specs.Ranges.{Every, tradingDays, DateRange, joined, limitTo}
+use Rattle.ranges.specs.Ranges.{Every, DateRange, joined, limitTo}
 use Rattle.ranges.specs.Agreement.{Tile, listOf}
 use Rattle.ranges.proofs.Lists.{order, filter-map}
-use Rattle.ranges.proofs.Items.{every-trading-day, map-same, filter-same}
+use Rattle.ranges.proofs.Items.{every-each, every-trading-day, map-same, filter-same}
 use Rattle.error.specs.declared.CountResult.{CountResult}
 use Rattle.calendar.specs.Calls.{isSupported}
 use Rattle.trading_days.specs.Month.{monthList}
@@ -142,11 +142,9 @@ module _ (market : ℕ) (known : market ≤ 4) where
       (joined-dates k (nextYear y m) (nextMonth m) (next .1) (next .2) (omega arith, omega arith))
       ∙ sym (map-append dateOf (listOf (isTradingDay market) (monthRange (record { year = y; month = m }))) (joined (listOf (isTradingDay market)) (map monthRange (monthsFrom (nextYear y m) (nextMonth m) k))))
 
--- A list of trading days limited to a range, as dates and as day numbers.
-pub limited-dates : (trades : ℕ → Bool) (first last : Date) (a b : ℕ) → 1 ≤ a
-    → limitToRange first last (map dateOf (tradingDays trades a b)) ≡ map dateOf (limitTo (number first) (number last) (tradingDays trades a b))
-limited-dates trades first last a b o =
-    filter-map (λ t. leb (number first) (number t) && leb (number t) (number last)) dateOf (tradingDays trades a b)
+-- A list of days limited to a range, as dates and as day numbers.
+pub limited-dates : (first last : Date) (l : List ℕ) → Every (λ n. 1 ≤ n) l → limitToRange first last (map dateOf l) ≡ map dateOf (limitTo (number first) (number last) l)
+limited-dates first last l e =
+    filter-map (λ t. leb (number first) (number t) && leb (number t) (number last)) dateOf l
     ∙ ap (map dateOf)
-    (filter-same _ _ (tradingDays trades a b)
-    (every-trading-day _ trades a b (λ i x y. ap (λ (n : ℕ). leb (number first) n && leb n (number last)) (number-of-date i (omega arith)))))
+    (filter-same _ _ l (every-each _ _ (λ n h. ap (λ (i : ℕ). leb (number first) i && leb i (number last)) (number-of-date n h)) l e))

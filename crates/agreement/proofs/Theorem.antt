@@ -11,10 +11,11 @@ use Rattle.gregorian.specs.declared.Date.{Date}
 use Rattle.gregorian.specs.Calendar.{monthLength, dayNumber, firstDay, lastDay, IsDate, number, dayAfter, dateOf, dayBefore}
 use Rattle.gregorian.proofs.Laws.{is-date, date-of-number}
 use Rattle.markets.specs.Markets.{isTradingDay}
-use Rattle.ranges.specs.Ranges.{tradingDays, countTradingDays}
-use Rattle.ranges.specs.Agreement.{Agreement, Traversal, NextCall, PreviousCall, Tile}
+use Rattle.ranges.specs.Ranges.{Every, tradingDays, countTradingDays, joined}
+use Rattle.ranges.specs.Agreement.{Agreement, Traversal, NextCall, PreviousCall, Tile, listOf}
 use Rattle.ranges.proofs.Lists.{map-reverse}
-use Rattle.ranges.proofs.Months.{limited, joined-days}
+use Rattle.ranges.proofs.Items.{every-trading-day}
+use Rattle.ranges.proofs.Months.{joined-days}
 use Rattle.longest_run.proofs.Markets.{bounds, markets-agree}
 use Rattle.error.specs.declared.CountResult.{CountResult}
 use Rattle.agreement.specs.CallsAgree.{IsRange, tradingDates, Next, Previous, Month, monthsFrom, monthsOf, limitToRange, MonthLists, SplitDates, PartCounts, CallsAgree, AllCallsAgree}
@@ -90,17 +91,22 @@ module _ (market : ℕ) (first last : Date) (known : market ≤ 4) (range : IsRa
       let q = supported-years (last .year) (range .last-year) in
       (omega (arith, f .m-low, p), omega (arith, l .m-high, q, months-ordered first last f l (range .ordered)))
 
+  -- the days of these months have day numbers from 1 on
+  all-days : Every (λ n. 1 ≤ n) (joined (listOf trades) (map monthRange (monthsOf first last)))
+  all-days =
+      let one = number-from-day (first .year) (first .month) 1 in
+      subst (Every (λ n. 1 ≤ n)) (sym (joined-days trades from (map monthRange (monthsOf first last)) to tiled))
+      (every-trading-day (λ n. 1 ≤ n) trades from to (λ i x y. omega arith))
+
   on-months : (buffer : Month → List ℕ) → MonthLists market first last buffer
   on-months buffer =
       let f = first-is .exists in
       let l = last-is .exists in (
         listed market,
         all-read market known buffer _ (first .year) (first .month) (f .m-low) (f .m-high) in-years,
-        ap (limitToRange first last)
-            (joined-dates market known _ (first .year) (first .month) (f .m-low) (f .m-high) in-years
-            ∙ ap (map dateOf) (joined-days trades from (map monthRange (monthsOf first last)) to tiled))
-            ∙ limited-dates trades first last from to (number-from-day (first .year) (first .month) 1)
-            ∙ ap (map dateOf) (limited trades a b from to (omega (arith, bounds, first-low)) (range .ordered) (later-in-month (first .year) (first .month) 1 (first .day) (f .d-low)) (later-in-month (last .year) (last .month) (last .day) _ (l .d-high))),
+        ap (limitToRange first last) (joined-dates market known _ (first .year) (first .month) (f .m-low) (f .m-high) in-years)
+            ∙ limited-dates first last (joined (listOf trades) (map monthRange (monthsOf first last))) all-days
+            ∙ ap (map dateOf) (on-days .months from to (map monthRange (monthsOf first last)) tiled (later-in-month (first .year) (first .month) 1 (first .day) (f .d-low)) (later-in-month (last .year) (last .month) (last .day) _ (l .d-high))),
       )
 
   -- ---- all of it

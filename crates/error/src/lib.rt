@@ -95,6 +95,5 @@ pub fn date(e: CalendarError) -> Date
     ensures { λ r. ⌜ r ≡ errorDate e ⌝ }
 {
     let fields = fields(e);
-    let date = fields.date;
-    date
+    fields.date
 }

@@ -8,7 +8,7 @@ use lib.Dec.{ltb, leb, eqb}
 use native.Mathlib.Omega.{arith}
 use borrow.Author.Tests.{ltb-true, leb-true, eqb-true}
 use Rattle.gregorian.specs.declared.Date.{Date}
-use Rattle.gregorian.specs.Calendar.{total, yearLength, lastYear, lastDay, isDate, number, dateOf}
+use Rattle.gregorian.specs.Calendar.{total, yearLength, lastYear, lastDay, isDateOf, number, dateOf}
 use Rattle.gregorian.proofs.Tests.{and-left, and-right}
 use Rattle.gregorian.proofs.Laws.{is-date, date-of-number}
 use Rattle.utils.specs.declared.OptionalDay.{OptionalDay}
@@ -68,14 +68,12 @@ tradingRule market y =
 -- the date of day n: t, if t is a date with this number
 unfoldable pub closedDate : (t : Date) (n : ℕ) → (u : Date) × (dateOf n ≡ u)
 closedDate t n =
-    let test = isDate (t .year) (t .month) (t .day) in
-    by-test (test && eqb (number t) n) refl
+    by-test (isDateOf t && eqb (number t) n) refl
   where
-    by-test : (b : Bool) → (isDate (t .year) (t .month) (t .day) && eqb (number t) n) ≡ b → (u : Date) × (dateOf n ≡ u)
+    by-test : (b : Bool) → (isDateOf t && eqb (number t) n) ≡ b → (u : Date) × (dateOf n ≡ u)
     by-test true e =
-        let test = isDate (t .year) (t .month) (t .day) in
-        let exists = is-date (t .year) (t .month) (t .day) (and-left test _ e) .exists in
-        (t, ap dateOf (sym (eqb-true (number t) n (and-right test _ e))) ∙ date-of-number t exists)
+        let exists = is-date (t .year) (t .month) (t .day) (and-left (isDateOf t) _ e) .exists in
+        (t, ap dateOf (sym (eqb-true (number t) n (and-right (isDateOf t) _ e))) ∙ date-of-number t exists)
     by-test false e = (dateOf n, refl)
 
 -- the answers that have the date of a day

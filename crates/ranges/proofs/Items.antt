@@ -12,6 +12,11 @@ unfolding daysFrom
 every-from P zero a h = tt
 every-from P (suc k) a h = (h a (omega arith) (omega arith), every-from P k (suc a) (λ i x y. h i (omega arith) (omega arith)))
 
+-- what follows of each item
+pub every-each : {A : Type 0} (P Q : A → Type 0) → ((x : A) → P x → Q x) → (l : List A) → Every P l → Every Q l
+every-each P Q h [] e = tt
+every-each P Q h (x ∷ l) e = (h x (e .0), every-each P Q h l (e .1))
+
 pub every-filter : {A : Type 0} (P : A → Type 0) (p : A → Bool) (l : List A) → Every P l → Every P (filter p l)
 unfolding filter
 every-filter P p [] e = tt

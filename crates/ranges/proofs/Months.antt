@@ -27,7 +27,7 @@ module _ (trades : ℕ → Bool) where
   limit-inside a b = all-pass _ _ (every-trading-day _ trades a b (λ i x y. simp (le-leb a i x, le-leb i b y)))
 
   -- The trading days of a longer range, limited to a shorter one, are those of the shorter one.
-  pub limited : (a b low high : ℕ) → 1 ≤ a → a ≤ b → low ≤ a → b ≤ high → limitTo a b (tradingDays trades low high) ≡ tradingDays trades a b
+  limited : (a b low high : ℕ) → 1 ≤ a → a ≤ b → low ≤ a → b ≤ high → limitTo a b (tradingDays trades low high) ≡ tradingDays trades a b
   limited a b low high o h p q =
       let e : suc (a - 1) ≡ a = omega arith in
       ap (limitTo a b) (trading-split trades low (a - 1) high (omega arith) (omega arith) ∙ ap (λ (x : ℕ). before ++ tradingDays trades x high) e)
