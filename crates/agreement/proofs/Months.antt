@@ -23,9 +23,10 @@ use Rattle.error.specs.declared.CountResult.{CountResult}
 use Rattle.calendar.specs.Calls.{isSupported}
 use Rattle.trading_days.specs.Month.{monthList}
 use Rattle.trading_days.proofs.MonthDayLaws.{month-list}
+use Rattle.buffers.proofs.BufferLaws.{overwrite-start}
 use Rattle.calendar.specs.RangeCalls.{finalBuffer}
 use Rattle.calendar.proofs.CallLaws.{supported-years}
-use Rattle.calendar.proofs.MonthLaws.{month-of-years, written-ok, written-error, final-start}
+use Rattle.calendar.proofs.MonthLaws.{month-of-years, written-ok, written-error}
 use Rattle.agreement.specs.CallsAgree.{Month, monthsFrom, Writes, Reads, datesOf, limitToRange}
 
 -- ---- the months in order
@@ -92,7 +93,7 @@ module _ (market : ℕ) (known : market ≤ 4) (y m : ℕ) (year : isSupported y
   writes : (buffer : List ℕ) → length bytes ≤ length buffer → Writes market month buffer bytes
   writes buffer fits =
       let ok = month-of-years market y m buffer known year l h ∙ written-ok bytes buffer fits in
-      (ok, ap (λ (r : CountResult). take (length bytes) (finalBuffer r bytes buffer)) ok ∙ final-start bytes buffer (length bytes))
+      (ok, ap (λ (r : CountResult). take (length bytes) (finalBuffer r bytes buffer)) ok ∙ overwrite-start bytes buffer)
 
   reads : (buffer : List ℕ) → Reads market month buffer bytes
   reads buffer =

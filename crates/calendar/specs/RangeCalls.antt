@@ -2,9 +2,9 @@
 -- Assumes nothing.
 use Prim.Native.Nat.{ℕ, _-_}
 use mathlib.Core.Bool.{cond, not, _&&_, _||_}
-use mathlib.Core.List.{List, _++_}
+use mathlib.Core.List.{List}
 use lib.Dec.{ltb, leb}
-use lib.ListN.{length, drop}
+use lib.ListN.{length}
 use Rattle.gregorian.specs.declared.Date.{Date}
 use Rattle.gregorian.specs.Calendar.{firstDay, lastDay, isDate, date, dateOf}
 use Rattle.utils.specs.declared.OptionalDay.{OptionalDay}
@@ -12,7 +12,9 @@ use Rattle.utils.specs.declared.OptionalDay.the-variants.{Day, None}
 use Rattle.markets.specs.Markets.{isTradingDay}
 use Rattle.ranges.specs.Ranges.{nextTradingDay, previousTradingDay, countTradingDays}
 use Rattle.trading_days.specs.Month.{monthList}
+use Rattle.buffers.specs.Buffers.{overwrite}
 use Rattle.error.specs.declared.CountResult.{CountResult}
+use Rattle.error.specs.declared.CalendarError.{CalendarError}
 use Rattle.error.specs.declared.CalendarError.the-variants.{UnknownMarket, DateOutOfRange, InvalidDateCalculation, NoTradingDayFound, BufferTooSmall}
 use Rattle.calendar.specs.declared.TradingDay.{TradingDay}
 use Rattle.calendar.specs.declared.TradingDayResult.{TradingDayResult}
@@ -60,16 +62,31 @@ writtenResult bytes buffer =
 
 -- [error-writes-nothing]: what the buffer holds at the end. Without an error the bytes are at its start, and the rest stays.
 abbrev pub finalBuffer : CountResult → List ℕ → List ℕ → List ℕ
-finalBuffer (CountResult.Ok n) bytes buffer = bytes ++ drop (length bytes) buffer
+finalBuffer (CountResult.Ok n) bytes buffer = overwrite bytes buffer
 finalBuffer (CountResult.Err e) bytes buffer = buffer
+
+-- a month is checked, or has an error
+pub data MonthCheck : Type 0 where
+  Ok : MonthCheck
+  Err : CalendarError → MonthCheck
+
+-- Errors 8, 1 and 2, in the order of [errors]: the first that applies decides.
+unfoldable pub checkedMonth : ℕ → ℕ → ℕ → MonthCheck
+checkedMonth market year month =
+    cond (ltb 4 market) (Err UnknownMarket)
+    (cond (not (isSupported year)) (Err (DateOutOfRange (monthErrorDate year month)))
+    (cond (not (leb 1 month && leb month 12)) (Err InvalidDateCalculation)
+    Ok))
+
+-- the Rust's `?`, and what follows it: an error is handed on
+abbrev pub tryMonth : {A : Type 0} → MonthCheck → (CalendarError → A) → A → A
+tryMonth Ok error rest = rest
+tryMonth (Err e) error rest = error e
 
 -- trading_days_in_month: errors 8, 1, 2 and 9
 unfoldable pub tradingDaysInMonthResult : ℕ → ℕ → ℕ → List ℕ → CountResult
 tradingDaysInMonthResult market year month buffer =
-    cond (ltb 4 market) (CountResult.Err UnknownMarket)
-    (cond (not (isSupported year)) (CountResult.Err (DateOutOfRange (monthErrorDate year month)))
-    (cond (not (leb 1 month && leb month 12)) (CountResult.Err InvalidDateCalculation)
-    (writtenResult (monthList market year month) buffer)))
+    tryMonth (checkedMonth market year month) CountResult.Err (writtenResult (monthList market year month) buffer)
 
 abbrev pub tradingDaysInMonthBuffer : ℕ → ℕ → ℕ → List ℕ → List ℕ
 tradingDaysInMonthBuffer market year month buffer =

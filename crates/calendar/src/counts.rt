@@ -60,7 +60,7 @@ pub fn trading_days_in_month(market: u32, year: u32, month: u32, out: &mut [u8])
     if out.len() < count {
         return CountResult::Err(CalendarError::BufferTooSmall(count as u32));
     }
-    trading_days::write(&days, count, out);
+    buffers::write(&days[0..count], out);
     CountResult::Ok(count as u32)
 }
 

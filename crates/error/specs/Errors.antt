@@ -4,7 +4,7 @@ use Rattle.gregorian.specs.declared.Date.{Date}
 use Rattle.gregorian.specs.Calendar.{noDate}
 use Rattle.error.specs.declared.ErrorFields.{ErrorFields}
 use Rattle.error.specs.declared.CalendarError.{CalendarError}
-use Rattle.error.specs.declared.CalendarError.the-variants.{UnknownMarket, InvalidDate, TimeOutOfRange, DateOutOfRange, InvalidDateCalculation, NoTradingDayFound, BufferTooSmall, InvalidSession, InvalidTime}
+use Rattle.error.specs.declared.CalendarError.the-variants.{MalformedText, UnknownMarket, InvalidDate, TimeOutOfRange, DateOutOfRange, InvalidDateCalculation, NoTradingDayFound, BufferTooSmall, InvalidSession, InvalidTime}
 
 -- an error with which nothing is returned
 abbrev pub onlyNumber : ℕ → ErrorFields
@@ -13,6 +13,7 @@ onlyNumber n = record { number = n; count = 0; date = noDate }
 -- The number of each error, the number of bytes that is returned with error 9 and the date with error 1. InvalidDateCalculation is the
 -- error of a month that is none, and InvalidTime that of an early close that is not before the regular end, as in the Rust.
 unfoldable pub errorFields : CalendarError → ErrorFields
+errorFields MalformedText = onlyNumber 10
 errorFields UnknownMarket = onlyNumber 8
 errorFields InvalidDate = onlyNumber 5
 errorFields TimeOutOfRange = onlyNumber 7

@@ -4,9 +4,10 @@ ghost use Rattle.error.specs.Errors.{onlyNumber, errorFields, errorNumbe
 use gregorian::Date;
 use gregorian::NO_DATE;
 
-// In the order of [errors]. The first three are added, as the types of the Rust have no such market, date or time; and so is
-// BufferTooSmall, which holds the number of bytes that the answer takes.
+// In the order of [errors]. The first four are added, as the Rust has no month sheet and its types no such market, date or time; and
+// so is BufferTooSmall, which holds the number of bytes that the answer takes.
 pub enum CalendarError {
+    MalformedText,
     UnknownMarket,
     InvalidDate,
     TimeOutOfRange,
@@ -57,6 +58,7 @@ fn fields(e: CalendarError) -> ErrorFields
     ensures { λ r. ⌜ r ≡ errorFields e ⌝ }
 {
     match e {
+        CalendarError::MalformedText => only_number(10),
         CalendarError::UnknownMarket => only_number(8),
         CalendarError::InvalidDate => only_number(5),
         CalendarError::TimeOutOfRange => only_number(7),

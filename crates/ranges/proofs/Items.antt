@@ -3,7 +3,7 @@
 use Prim.Native.Nat.{ℕ, zero, suc, _+_, _-_, _≤_, _<_}
 use mathlib.Core.Path.{_≡_, refl, ap₂}
 use mathlib.Core.Bool.{Bool, true, false}
-use mathlib.Core.List.{List, [], _∷_, map}
+use mathlib.Core.List.{List, [], _∷_, _++_, map}
 use native.Mathlib.Omega.{arith}
 use Rattle.ranges.specs.Ranges.{daysFrom, days, keep, filter, Every, tradingDays}
 
@@ -16,6 +16,10 @@ every-from P (suc k) a h = (h a (omega arith) (omega arith), every-from P k (suc
 pub every-each : {A : Type 0} (P Q : A → Type 0) → ((x : A) → P x → Q x) → (l : List A) → Every P l → Every Q l
 every-each P Q h [] e = tt
 every-each P Q h (x ∷ l) e = (h x (e .0), every-each P Q h l (e .1))
+
+pub every-append : {A : Type 0} (P : A → Type 0) (l r : List A) → Every P l → Every P r → Every P (l ++ r)
+every-append P [] r e f = f
+every-append P (x ∷ l) r e f = (e .0, every-append P l r (e .1) f)
 
 pub every-filter : {A : Type 0} (P : A → Type 0) (p : A → Bool) (l : List A) → Every P l → Every P (filter p l)
 unfolding filter

@@ -116,6 +116,19 @@ filter-map p f (x ∷ l) = ap (keep (p (f x)) (f x)) (filter-map p f l) ∙ keep
     keep-map true = refl
     keep-map false = refl
 
+-- A filter leaves at most as many.
+pub filter-length : {A : Type 0} (p : A → Bool) (l : List A) → length (filter p l) ≤ length l
+unfolding filter
+filter-length p [] = omega arith
+filter-length p (x ∷ l) = kept (p x) (filter-length p l)
+  where
+    kept : (t : Bool) → length (filter p l) ≤ length l → length (keep t x (filter p l)) ≤ suc (length l)
+    kept true h = omega arith
+    kept false h = omega arith
+
+pub trading-length : (p : ℕ → Bool) (a b : ℕ) → length (tradingDays p a b) ≤ suc b - a
+trading-length p a b = omega (arith, filter-length p (days a b), from-length (suc b - a) a)
+
 module _ (p : ℕ → Bool) where
   pub filter-none : filter p [] ≡ []
   unfolding filter

@@ -1,6 +1,7 @@
 // The calls that a host in C or Rust makes. Every call takes every number, so none has a `requires`. Labels in brackets are those of docs/SCOPE.md.
 pub mod neighbours;
 pub mod ranges;
+pub mod sheets;
 pub mod trading_hours;
 
 ghost use mathlib.Core.Path.{_≡_};

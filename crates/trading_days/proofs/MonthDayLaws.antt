@@ -1,17 +1,20 @@
--- The laws of the days of a month, of the list of them in an array, and of a buffer that it is written to.
+-- The laws of the days of a month, and of the list of them in an array.
 -- Assumes nothing.
 use Prim.Native.Nat.{ℕ, zero, suc, _+_, _-_, _≤_, _<_}
 use mathlib.Core.Path.{_≡_, refl, sym, ap, _∙_}
 use mathlib.Core.Bool.{Bool, true, false}
 use mathlib.Core.List.{List, _∷_, _++_, append-nil, map}
-use lib.ListN.{length, getD, take, drop, set}
-use lib.Seq.{take-suc, drop-cons, take-suc-set, append-snoc, set-at, length-take-le}
+use lib.ListN.{length, take, set, List·getD-eq-default}
+use lib.Seq.{take-suc-set, append-snoc}
+use native.Mathlib.Decide.{decLe}
 use native.Mathlib.Omega.{arith}
-use Rattle.gregorian.specs.Calendar.{lastDay, monthLength, isDate, dayNumber}
+use Rattle.gregorian.specs.Calendar.{lastDay, leapDay, monthLengths, monthLength, isDate, dayNumber}
 use Rattle.gregorian.proofs.Laws.{days-on, is-date, date-by, number-range}
+use Rattle.gregorian.proofs.Formulas.{month-high}
 use Rattle.markets.specs.Markets.{isTradingDay}
-use Rattle.ranges.specs.Ranges.{daysFrom, days, filter, tradingDays}
-use Rattle.ranges.proofs.Lists.{filter-map, trading-kept, trading-passed, trading-none}
+use Rattle.ranges.specs.Ranges.{daysFrom, days, filter, Every, tradingDays}
+use Rattle.ranges.proofs.Lists.{filter-map, trading-length, trading-kept, trading-passed, trading-none}
+use Rattle.ranges.proofs.Items.{every-trading-day}
 use Rattle.trading_days.specs.Month.{monthList}
 
 -- Day d of a month by the day number of its first.
@@ -45,18 +48,6 @@ module _ (p : ℕ → Bool) (l : List ℕ) (k a b : ℕ) where
   pub days-done : b < a → take k l ++ tradingDays p a b ≡ take k l
   days-done h = ap (λ (r : List ℕ). take k l ++ r) (trading-none p a b h) ∙ append-nil (take k l)
 
--- One byte more is written to the start of a buffer.
-pub byte-more : (bytes buffer : List ℕ) (i : ℕ) → i < length bytes → i < length buffer
-    → set (take i bytes ++ drop i buffer) i (getD bytes i 0) ≡ take (i + 1) bytes ++ drop (i + 1) buffer
-byte-more bytes buffer i h k =
-    let one : suc i ≡ i + 1 = omega arith in
-    let rest = drop (suc i) buffer in
-    ap (λ (r : List ℕ). set (take i bytes ++ r) i (getD bytes i 0)) (drop-cons buffer i 0 k)
-    ∙ set-at (take i bytes) (getD buffer i 0) rest (getD bytes i 0) i (length-take-le i bytes (omega arith))
-    ∙ sym (append-snoc (take i bytes) (getD bytes i 0) rest)
-    ∙ ap (λ (r : List ℕ). r ++ rest) (sym (take-suc bytes i 0 h))
-    ∙ ap (λ (n : ℕ). take n bytes ++ drop n buffer) one
-
 -- The days of a month follow each other, and so the list is that of the trading days from its first day to its last.
 month-days : (y m k d : ℕ) → map (dayNumber y m) (daysFrom d k) ≡ daysFrom (dayNumber y m d) k
 unfolding daysFrom
@@ -76,3 +67,23 @@ month-list market y m =
     sym (filter-map (isTradingDay market) (dayNumber y m) (days 1 n))
     ∙ ap (filter (isTradingDay market)) (month-days y m (suc n - 1) 1)
     ∙ ap (λ (k : ℕ). filter (isTradingDay market) (daysFrom (dayNumber y m 1) k)) (as-many y m n)
+
+-- Each day of the list is one of the month, and so there are at most 31.
+pub list-in-month : (market y m : ℕ) → Every (λ d. d ≤ monthLength y m) (monthList market y m)
+unfolding monthList
+list-in-month market y m = every-trading-day (λ d. d ≤ monthLength y m) _ 1 (monthLength y m) (λ d l h. h)
+
+-- A number that is no month has no days.
+length-high : (y m : ℕ) → monthLength y m ≤ 31
+unfolding monthLength
+length-high y m =
+    elim (decLe m 12) [
+      | yes h ↦ month-high y m h
+      | no h ↦
+          let past : 13 ≤ m = omega arith in
+          omega (arith, List·getD-eq-default (monthLengths (leapDay y)) 0 past)
+    ]
+
+pub list-length : (market y m : ℕ) → length (monthList market y m) ≤ 31
+unfolding monthList
+list-length market y m = omega (arith, trading-length (λ day. isTradingDay market (dayNumber y m day)) 1 (monthLength y m), length-high y m)

@@ -1,10 +1,9 @@
-// The trading days of a range and of a month, as src/calendar.rs of the Rust finds them past its checks, and the buffer that they are
-// written to. Labels in brackets are those of docs/SCOPE.md.
+// The trading days of a range and of a month, as src/calendar.rs of the Rust finds them past its checks. Labels in brackets are those
+// of docs/SCOPE.md.
 ghost use mathlib.Core.Path.{_≡_};
 ghost use mathlib.Core.Bool.{true};
-ghost use mathlib.Core.List.{_++_};
 ghost use Prim.Native.Nat.{_≤_};
-ghost use lib.ListN.{length, take, drop};
+ghost use lib.ListN.{take};
 ghost use Rattle.gregorian.specs.Calendar.{lastDay, isDate};
 ghost use Rattle.markets.specs.Markets.{isTradingDay};
 ghost use Rattle.ranges.specs.Ranges.{countTradingDays};
@@ -54,16 +53,4 @@ pub fn month_days(market: u32, year: u32, month: u32) -> MonthDays
         day += 1;
     }
     MonthDays { count, days }
-}
-
-// Writes the first count bytes to the start of the buffer. The rest of it stays [error-writes-nothing].
-pub fn write(bytes: &[u8], count: usize, out: &mut [u8])
-    requires { ⌜ (count ≤ length (now bytes)) × (count ≤ length (now out)) ⌝ }
-    ensures { λ _. ⌜ now (out .exit) ≡ take count (now (bytes .entry)) ++ drop count (now (out .entry)) ⌝ }
-{
-    let mut i = 0;
-    while i < count {
-        out[i] = bytes[i];
-        i += 1;
-    }
 }

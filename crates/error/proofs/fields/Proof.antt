@@ -19,11 +19,11 @@ returns-3 c = c .only-number3 .ensures ∙ ap errorFields (sym (c .before .enum-
 
 returns-4 : tie.Need-returns-4
 unfolding errorFields
-returns-4 c = ap errorFields (sym (c .before .e .given .1))
+returns-4 c = c .only-number4 .ensures ∙ ap errorFields (sym (c .before .enum-told4 .given .1))
 
 returns-5 : tie.Need-returns-5
 unfolding errorFields
-returns-5 c = c .only-number4 .ensures ∙ ap errorFields (sym (c .before .enum-told4 .given .1))
+returns-5 c = ap errorFields (sym (c .before .e .given .1))
 
 returns-6 : tie.Need-returns-6
 unfolding errorFields
@@ -31,17 +31,21 @@ returns-6 c = c .only-number5 .ensures ∙ ap errorFields (sym (c .before .enum-
 
 returns-7 : tie.Need-returns-7
 unfolding errorFields
-returns-7 c = ap errorFields (sym (c .before .e2 .given .1))
+returns-7 c = c .only-number6 .ensures ∙ ap errorFields (sym (c .before .enum-told6 .given .1))
 
 returns-8 : tie.Need-returns-8
 unfolding errorFields
-returns-8 c = c .only-number6 .ensures ∙ ap errorFields (sym (c .before .enum-told6 .given .1))
+returns-8 c = ap errorFields (sym (c .before .e2 .given .1))
 
 returns-9 : tie.Need-returns-9
 unfolding errorFields
 returns-9 c = c .only-number7 .ensures ∙ ap errorFields (sym (c .before .enum-told7 .given .1))
 
+returns-10 : tie.Need-returns-10
+unfolding errorFields
+returns-10 c = c .only-number8 .ensures ∙ ap errorFields (sym (c .before .enum-told8 .given .1))
+
 pub fields-spec : {M : Type 1} → statement M
 fields-spec =
     tie.close
-    (tie.spec (search needs) (search needs) (search needs) (search needs) (search needs) (search needs) (search needs) (search needs) (search needs) (search needs) (search needs) (search needs) (search needs) (search needs) (search needs) (search needs) returns returns-2 returns-3 returns-4 returns-5 returns-6 returns-7 returns-8 returns-9)
+    (tie.spec (search needs) (search needs) (search needs) (search needs) (search needs) (search needs) (search needs) (search needs) (search needs) (search needs) (search needs) (search needs) (search needs) (search needs) (search needs) (search needs) (search needs) (search needs) returns returns-2 returns-3 returns-4 returns-5 returns-6 returns-7 returns-8 returns-9 returns-10)

@@ -1,6 +1,6 @@
 -- `calendar::counts::trading_days_in_month` meets its contract: each error by the tests before it, and then the bytes.
-use Prim.Native.Nat.{_≤_}
-use mathlib.Core.Path.{_≡_, sym, _∙_}
+use Prim.Native.Nat.{ℕ, _-_, _≤_}
+use mathlib.Core.Path.{_≡_, sym, ap, _∙_}
 use mathlib.Core.Bool.{true, _&&_}
 use lib.Dec.{leb}
 use lib.ListN.{length, take}
@@ -9,6 +9,7 @@ use native.Mathlib.Omega.{arith}
 use borrow.Author.Tests.{not-true, not-false}
 use borrow.Author.Needs.{needs}
 use denote.Ref.{now}
+use Rattle.buffers.specs.Buffers.{overwrite}
 use Rattle.calendar.specs.Calls.{isSupported}
 use Rattle.calendar.proofs.MonthLaws.{first-is-date, month-error-8, month-error-1, month-error-2, month-error-9, month-written}
 use Rattle.calendar.proofs.counts.trading_days_in_month.Statement.{statement}
@@ -55,17 +56,21 @@ returns-4 c =
     month-error-9 _ _ _ out (is-market (e .before .before)) (is-supported (e .before)) (is-month e) _ (s .month-days .result .count)
     (s .month-days .ensures .0) (listed s) (omega arith)
 
-write-requires : tie.Need-write-requires
-write-requires c κs = let e = c .before .before in (in-list (e .before .before), omega (arith, e .if4))
+part-end : tie.Need-part-write-end
+part-end c = in-list (c .before .before .before)
 
 returns-5 : tie.Need-returns-5
 returns-5 c =
-    let s = c .before .before .before .before .before .before .before in
+    let s = c .before .before .before .before .before .before .before .before in
     let e = s .before in
-    month-written _ _ _ _ (is-market (e .before .before)) (is-supported (e .before)) (is-month e) _ _ (s .month-days .ensures .0) (listed s) _
-    (omega (arith, c .before .before .before .before .before .if4)) (c .before .before .write .ensures)
+    let r = s .month-days .result in
+    let out = now (e .before .before .before .before .before .before .args .out) in
+    let from-0 : r .count - 0 ≡ r .count = omega arith in
+    month-written _ _ _ out (is-market (e .before .before)) (is-supported (e .before)) (is-month e) _ _ (s .month-days .ensures .0) (listed s) _
+    (omega (arith, c .before .before .before .before .before .before .if4))
+    (c .before .before .write .ensures .1 ∙ ap (λ (n : ℕ). overwrite (take n (r .days)) out) from-0)
 
 pub trading-days-in-month-spec : {M : Type 1} → statement M
 trading-days-in-month-spec =
     tie.close
-    (tie.spec (search needs) (search needs) returns (search needs) returns-2 returns-3 month-days-requires (search needs) returns-4 (λ c. search needs) write-requires (search needs) (search needs) returns-5)
+    (tie.spec (search needs) (search needs) returns (search needs) returns-2 returns-3 month-days-requires (search needs) returns-4 (search needs) (search needs) part-end (search needs) (search needs) (search needs) returns-5)

@@ -1,0 +1,2 @@
+pub mod RequestLaws
+pub mod Form

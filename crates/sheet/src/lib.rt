@@ -1,0 +1,59 @@
+// The month sheet: a text that names a month of a market, and the sheet of its trading days. Labels in brackets are those of
+// docs/SCOPE.md.
+mod length;
+mod lines;
+
+ghost use mathlib.Core.Path.{_≡_};
+ghost use Prim.Native.Nat.{_≤_};
+ghost use lib.ListN.{length};
+ghost use Rattle.calendar.specs.RangeCalls.{writtenResult, finalBuffer};
+ghost use Rattle.sheet.specs.Sheet.{sheetText};
+ghost use Rattle.sheet.specs.Call.{sheetOfMonth, sheetWritten, sheetBuffer, monthSheetResult, monthSheetBuffer};
+use error::CalendarError;
+use error::CountResult;
+use request::Request;
+use request::read_request;
+use trading_days::LONGEST_MONTH;
+
+// How many bytes were written; error 9 where the sheet does not fit.
+fn write_fitting(market: u32, year: u32, month: u32, days: &[u8], out: &mut [u8]) -> CountResult
+    requires { ⌜ length (now days) ≤ 31 ⌝ }
+    ensures { λ r. ⌜ (r ≡ writtenResult (sheetText market year month (now (days .entry))) (now (out .entry)))
+        × (now (out .exit) ≡ finalBuffer r (sheetText market year month (now (days .entry))) (now (out .entry))) ⌝ }
+{
+    let needed = length::sheet_length(market, year, month, days);
+    if out.len() < needed {
+        return CountResult::Err(CalendarError::BufferTooSmall(needed as u32));
+    }
+    CountResult::Ok(lines::write_sheet(market, year, month, days, out) as u32)
+}
+
+// The first of errors 8, 1, 2 and 9 that applies, or the sheet with the days of the month list.
+fn sheet_of_month(market: u32, year: u32, month: u32, out: &mut [u8]) -> CountResult
+    ensures { λ r. ⌜ (r ≡ sheetWritten (sheetOfMonth market year month) (now (out .entry)))
+        × (now (out .exit) ≡ sheetBuffer (sheetOfMonth market year month) (now (out .entry))) ⌝ }
+{
+    let mut days = [0; LONGEST_MONTH];
+    match calendar::counts::trading_days_in_month(market, year, month, &mut days) {
+        CountResult::Ok(count) => {
+            let n = count as usize;
+            write_fitting(market, year, month, &days[0..n], out)
+        }
+        CountResult::Err(e) => CountResult::Err(e),
+    }
+}
+
+// [sheet-return]: how many bytes of the sheet were written, or the first of errors 10, 8, 1, 2 and 9 that applies.
+pub fn month_sheet(text: &[u8], out: &mut [u8]) -> CountResult
+    ensures { λ r. ⌜ (r ≡ monthSheetResult (now (text .entry)) (now (out .entry)))
+        × (now (out .exit) ≡ monthSheetBuffer (now (text .entry)) (now (out .entry))) ⌝ }
+{
+    match read_request(text) {
+        Request::Month {
+            market,
+            year,
+            month,
+        } => sheet_of_month(market, year, month, out),
+        Request::Malformed => CountResult::Err(CalendarError::MalformedText),
+    }
+}

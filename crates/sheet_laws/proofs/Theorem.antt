@@ -1,0 +1,182 @@
+-- The laws of the month sheet hold.
+-- Assumes nothing.
+use Prim.Native.Nat.{ℕ, _^_, _≤_, _<_}
+use mathlib.Core.Path.{_≡_, refl, sym, ap, _∙_}
+use mathlib.Core.Bool.{Bool, true, false, cond, _&&_}
+use mathlib.Core.List.{List, [], _∷_, _++_, map}
+use lib.Dec.{ltb, leb}
+use lib.ListN.{length, take, length-map}
+use native.Mathlib.Omega.{arith}
+use borrow.Author.Tests.{ltb-false, leb-true}
+use Rattle.gregorian.specs.Calendar.{monthLength}
+use Rattle.gregorian.proofs.Formulas.{month-high}
+use Rattle.gregorian.proofs.Tests.{and-left, and-right}
+use Rattle.ranges.specs.Ranges.{Every}
+use Rattle.ranges.proofs.Items.{every-each, every-append, every-map}
+use Rattle.trading_days.specs.Month.{monthList}
+use Rattle.trading_days.proofs.MonthDayLaws.{list-in-month, list-length}
+use Rattle.buffers.proofs.BufferLaws.{overwrite-start}
+use Rattle.error.specs.declared.CountResult.{CountResult}
+use Rattle.error.specs.declared.CalendarError.the-variants.{BufferTooSmall}
+use Rattle.calendar.specs.Calls.{isSupported}
+use Rattle.calendar.specs.RangeCalls.{MonthCheck, checkedMonth, writtenResult, finalBuffer, tradingDaysInMonthResult, tradingDaysInMonthBuffer}
+use Rattle.calendar.proofs.CallLaws.{supported-years}
+use Rattle.calendar.proofs.MonthLaws.{NoMonthError, month-checked, written-ok, month-of-years}
+use Rattle.decimal.specs.Decimal.{decimal, valueOf}
+use Rattle.decimal.proofs.DecimalLaws.{length-positive, length-at-most, decimal-digits, decimal-value, no-leading-zero}
+use Rattle.request.specs.declared.Request.{Request}
+use Rattle.request.specs.Text.{ascii, textOf}
+use Rattle.request.specs.Request.{requestText, readRequest}
+use Rattle.sheet.specs.Sheet.{commaSeparated, sheetText, monthSheet}
+use Rattle.sheet.specs.Call.{SheetResult, sheetOfMonth, sheetOfRequest, sheetWritten, sheetBuffer}
+use Rattle.request.proofs.Form.{reads-the-form}
+use Rattle.sheet.proofs.CallLaws.{sheet-by-check}
+use Rattle.sheet.proofs.SheetLength.{sheet-length}
+use Rattle.sheet_laws.specs.SheetLaws.{splitLines, firstLines, splitList, IsNumber, SheetLaws, AllSheetLaws}
+use Rattle.sheet_laws.proofs.Pieces.{Above, decimal-above, split-text, numbers-above, split-list}
+
+-- ---- numbers
+
+-- A number below 10 ^ 9 in decimal is one of the sheet, and its value is the number.
+is-number : (n : ℕ) → n < 10 ^ 9 → IsNumber (decimal n)
+is-number n h = record { digit-string = (decimal-digits n, length-positive n, length-at-most 8 n h); no-leading-zero = no-leading-zero n }
+
+values : (numbers : List ℕ) → map valueOf (map decimal numbers) ≡ numbers
+values [] = refl
+values (n ∷ ns) = λ j. decimal-value n j ∷ values ns j
+
+-- ---- what the calls wrote
+
+-- Bytes that were written without an error are all there.
+written-bytes : (bytes buffer : List ℕ) (n : ℕ) → writtenResult bytes buffer ≡ CountResult.Ok n
+    → (n ≡ length bytes) × (take n (finalBuffer (writtenResult bytes buffer) bytes buffer) ≡ bytes)
+unfolding writtenResult
+written-bytes bytes buffer n = by (ltb (length buffer) (length bytes))
+  where
+    result : Bool → CountResult
+    result short = cond short (CountResult.Err (BufferTooSmall (length bytes))) (CountResult.Ok (length bytes))
+
+    by : (short : Bool) → result short ≡ CountResult.Ok n → (n ≡ length bytes) × (take n (finalBuffer (result short) bytes buffer) ≡ bytes)
+    by true e = absurd (let z : _≡_ {A = ℕ} 0 1 = cc in omega arith)
+    by false e = let l : n ≡ length bytes = cc in (l, rw l (overwrite-start bytes buffer))
+
+-- The call gave no error, and so what it wrote is the sheet.
+sheet-checked : (market year month n : ℕ) (buffer : List ℕ) → sheetWritten (sheetOfMonth market year month) buffer ≡ CountResult.Ok n
+    → NoMonthError market year month × (sheetOfMonth market year month ≡ SheetResult.Ok (monthSheet market year month))
+sheet-checked market year month n buffer h = by (checkedMonth market year month) refl
+  where
+    by : (k : MonthCheck) → checkedMonth market year month ≡ k
+        → NoMonthError market year month × (sheetOfMonth market year month ≡ SheetResult.Ok (monthSheet market year month))
+    by MonthCheck.Ok c = (month-checked market year month c, sheet-by-check market year month _ c)
+    by (MonthCheck.Err e) c =
+        let z : CountResult.Err e ≡ CountResult.Ok n = ap (λ (r : SheetResult). sheetWritten r buffer) (sym (sheet-by-check market year month _ c)) ∙ h in
+        absurd (let z : _≡_ {A = ℕ} 0 1 = cc in omega arith)
+
+-- ---- the sheet of a month
+
+module _ (market year month : ℕ) (k : NoMonthError market year month) where
+  abbrev days : List ℕ
+  days = monthList market year month
+
+  to-12 : (1 ≤ month) × (month ≤ 12)
+  to-12 = (leb-true 1 month (and-left (leb 1 month) _ (k .is-month)), leb-true month 12 (and-right (leb 1 month) _ (k .is-month)))
+
+  -- what the month call answers and writes
+  month-answer : (buffer : List ℕ) → tradingDaysInMonthResult market year month buffer ≡ writtenResult days buffer
+  month-answer buffer = month-of-years market year month buffer (k .known) (k .supported) (to-12 .0) (to-12 .1)
+
+  month-written : (buffer : List ℕ) (i : ℕ) → tradingDaysInMonthResult market year month buffer ≡ CountResult.Ok i
+      → (i ≡ length days) × (take i (tradingDaysInMonthBuffer market year month buffer) ≡ days)
+  month-written buffer i e = rw (month-answer buffer) (written-bytes days buffer i (sym (month-answer buffer) ∙ e))
+
+  -- the days as numbers of the sheet
+  numbers : Every IsNumber (map decimal days)
+  numbers =
+      every-map IsNumber decimal days
+      (every-each (λ d. d ≤ monthLength year month) (λ d. IsNumber (decimal d))
+      (λ d h. is-number d (omega (arith, month-high year month (to-12 .1)))) days (list-in-month market year month))
+
+  -- Each line is a name and then digits and commas, so that no line feed occurs in it.
+  lines : splitLines (monthSheet market year month) ≡
+      (ascii "market=" ++ decimal market)
+      ∷ (ascii "year=" ++ decimal year)
+      ∷ (ascii "month=" ++ decimal month)
+      ∷ (ascii "count=" ++ decimal (length days))
+      ∷ (ascii "days=" ++ commaSeparated days)
+      ∷ []
+      ∷ []
+  unfolding sheetText
+  lines =
+      let m = named (ascii "market=") (omega arith) market in
+      let y = named (ascii "year=") (omega arith) year in
+      let o = named (ascii "month=") (omega arith) month in
+      let c = named (ascii "count=") (omega arith) (length days) in
+      let d = every-append _ (ascii "days=") (commaSeparated days) (omega arith) (numbers-above days) in
+      split-text _ (m, (y, (o, (c, (d, tt)))))
+    where
+      named : (name : List ℕ) → Above 10 name → (n : ℕ) → Above 10 (name ++ decimal n)
+      named name h n = every-append _ name (decimal n) h (decimal-above 10 n (omega arith))
+
+  small : (market < 10 ^ 9) × (year < 10 ^ 9) × (month < 10 ^ 9) × (length days < 10 ^ 9)
+  small = (
+    omega (arith, k .known),
+    omega (arith, supported-years year (k .supported)),
+    omega (arith, to-12),
+    omega (arith, list-length market year month),
+  )
+
+  -- The first three lines are a text of the form, with the digits of the three numbers.
+  read-back : readRequest (firstLines 3 (monthSheet market year month)) ≡ Request.Month market year month
+  unfolding requestText
+  read-back =
+      ap (λ (l : List (List ℕ)). readRequest (textOf (take 3 l))) lines
+      ∙ reads-the-form .accepts (decimal market) (decimal year) (decimal month)
+      (is-number market (small .0) .digit-string) (is-number year (small .1) .digit-string) (is-number month (small .2) .digit-string)
+      ∙ (λ j. Request.Month (decimal-value market j) (decimal-value year j) (decimal-value month j))
+
+  -- the claim about this month
+  laws : (text : List ℕ) (n : ℕ) → readRequest text ≡ Request.Month market year month → n ≡ length (monthSheet market year month)
+      → SheetLaws text n (monthSheet market year month)
+  laws text n e l =
+      let list = split-list days in
+      let count = decimal-value (length days) in
+      let same : map valueOf (splitList (commaSeparated days)) ≡ days = ap (map valueOf) list ∙ values days in
+      record {
+        market = market;
+        year = year;
+        month = month;
+        request = e;
+        length-is = sym l;
+        at-most = omega (arith, sheet-length market year month (k .known) (k .supported) (k .is-month));
+        market-digits = decimal market;
+        year-digits = decimal year;
+        month-digits = decimal month;
+        count-digits = decimal (length days);
+        days = commaSeparated days;
+        lines = lines;
+        numbers =
+            (is-number market (small .0), (is-number year (small .1), (is-number month (small .2), (is-number (length days) (small .3), rw list numbers))));
+        market-is = decimal-value market;
+        year-is = decimal-value year;
+        month-is = decimal-value month;
+        read-back = read-back ∙ sym e;
+        count-is = count ∙ sym (ap length list ∙ length-map days decimal);
+        days-are = same;
+        month-call = λ buffer i h. let w = month-written buffer i h in (w .0 ∙ sym count, w .1 ∙ sym same);
+        no-error = λ buffer h. month-answer buffer ∙ written-ok days buffer (omega arith) ∙ ap CountResult.Ok (sym count);
+      }
+
+-- ---- the call
+
+-- The text asks for a month, as it gives no error 10.
+by-request : (text buffer : List ℕ) (n : ℕ) (r : Request) → readRequest text ≡ r → sheetWritten (sheetOfRequest r) buffer ≡ CountResult.Ok n
+    → SheetLaws text n (take n (sheetBuffer (sheetOfRequest r) buffer))
+by-request text buffer n (Request.Month market year month) e h =
+    let s = sheet-checked market year month n buffer h in
+    let w = written-bytes (monthSheet market year month) buffer n (ap (λ (r : SheetResult). sheetWritten r buffer) (sym (s .1)) ∙ h) in
+    rw (s .1, w .1) (laws market year month (s .0) text n e (w .0))
+by-request text buffer n Request.Malformed e h = absurd (let z : _≡_ {A = ℕ} 0 1 = cc in omega arith)
+
+-- [sheet-output], [sheet-numbers], [sheet-return]
+pub sheet-laws : AllSheetLaws
+sheet-laws text buffer n h = by-request text buffer n (readRequest text) refl h

@@ -1,0 +1,95 @@
+-- One claim about the bytes that a month sheet's call writes: docs/SCOPE.md [sheet-output], [sheet-numbers], [sheet-return]. The calls are
+-- the definitions that the contracts of the exported functions cite. Assumes nothing.
+use Prim.Native.Nat.{ℕ, _≤_, _<_}
+use mathlib.Core.Path.{_≡_}
+use mathlib.Core.Bool.{cond}
+use mathlib.Core.List.{List, [], _∷_, _++_, map}
+use lib.Dec.{eqb}
+use lib.ListN.{length, take, getD}
+use Rattle.ranges.specs.Ranges.{Every}
+use Rattle.trading_days.specs.Month.{monthList}
+use Rattle.error.specs.declared.CountResult.{CountResult}
+use Rattle.calendar.specs.RangeCalls.{tradingDaysInMonthResult, tradingDaysInMonthBuffer}
+use Rattle.decimal.specs.Decimal.{valueOf}
+use Rattle.request.specs.declared.Request.{Request}
+use Rattle.request.specs.Text.{ascii, textOf}
+use Rattle.request.specs.Request.{DigitString, readRequest}
+use Rattle.sheet.specs.Call.{monthSheetResult, monthSheetBuffer}
+
+-- ---- the bytes in pieces
+
+-- the pieces of a text between the separators; `piece` is what was read of the first one
+unfoldable pub splitFrom : List ℕ → ℕ → List ℕ → List (List ℕ)
+splitFrom piece separator [] = piece ∷ []
+splitFrom piece separator (b ∷ text) =
+    cond (eqb b separator) (piece ∷ splitFrom [] separator text) (splitFrom (piece ++ (b ∷ [])) separator text)
+
+abbrev pub split : ℕ → List ℕ → List (List ℕ)
+split = splitFrom []
+
+-- what stands between line feeds: the lines, and what follows the last line feed
+abbrev pub splitLines : List ℕ → List (List ℕ)
+splitLines = split 10
+
+-- the text of the first k lines
+abbrev pub firstLines : ℕ → List ℕ → List ℕ
+firstLines k text = textOf (take k (splitLines text))
+
+-- what stands between commas; nothing in an empty text
+unfoldable pub splitList : List ℕ → List (List ℕ)
+splitList [] = []
+splitList (b ∷ text) = split 44 (b ∷ text)
+
+-- [sheet-numbers]: 1 to 9 digits, and the first of two or more is no `0`
+pub record IsNumber (digits : List ℕ) : Type 0 where
+  pub digit-string : DigitString digits
+  pub no-leading-zero : 1 < length digits → getD digits 0 0 ≡ 48 → ⊥
+
+-- ---- the claim
+
+-- The call on the text answered n, and these are the first n bytes of the buffer after it.
+pub record SheetLaws (text : List ℕ) (n : ℕ) (written : List ℕ) : Type 0 where
+  -- the text asks for a month
+  pub market : ℕ
+  pub year : ℕ
+  pub month : ℕ
+  pub request : readRequest text ≡ Request.Month market year month
+  -- [sheet-return]
+  pub length-is : length written ≡ n
+  pub at-most : n ≤ 136
+  -- [sheet-output]: five lines, each ended by a line feed, and nothing after the last
+  pub market-digits : List ℕ
+  pub year-digits : List ℕ
+  pub month-digits : List ℕ
+  pub count-digits : List ℕ
+  pub days : List ℕ
+  pub lines : splitLines written ≡
+      (ascii "market=" ++ market-digits)
+      ∷ (ascii "year=" ++ year-digits)
+      ∷ (ascii "month=" ++ month-digits)
+      ∷ (ascii "count=" ++ count-digits)
+      ∷ (ascii "days=" ++ days)
+      ∷ []
+      ∷ []
+  -- [sheet-numbers]: no number has a leading zero
+  pub numbers : Every IsNumber (market-digits ∷ year-digits ∷ month-digits ∷ count-digits ∷ splitList days)
+  -- the numbers that were read
+  pub market-is : valueOf market-digits ≡ market
+  pub year-is : valueOf year-digits ≡ year
+  pub month-is : valueOf month-digits ≡ month
+  -- reading the first three lines gives them back
+  pub read-back : readRequest (firstLines 3 written) ≡ readRequest text
+  -- `count` is the length of `days`
+  pub count-is : valueOf count-digits ≡ length (splitList days)
+  -- `days` are the month list's
+  pub days-are : map valueOf (splitList days) ≡ monthList market year month
+  -- The month call writes the same days and answers the same count; and it gives no error where they fit.
+  pub month-call : (buffer : List ℕ) (k : ℕ) → tradingDaysInMonthResult market year month buffer ≡ CountResult.Ok k
+      → (k ≡ valueOf count-digits) × (take k (tradingDaysInMonthBuffer market year month buffer) ≡ map valueOf (splitList days))
+  pub no-error : (buffer : List ℕ) → valueOf count-digits ≤ length buffer
+      → tradingDaysInMonthResult market year month buffer ≡ CountResult.Ok (valueOf count-digits)
+
+-- for every text and buffer that the call gives no error for
+abbrev pub AllSheetLaws : Type 0
+AllSheetLaws =
+    (text buffer : List ℕ) (n : ℕ) → monthSheetResult text buffer ≡ CountResult.Ok n → SheetLaws text n (take n (monthSheetBuffer text buffer))
