@@ -37,14 +37,15 @@ static void show(const char *what, numbers list) {
     printf("\n");
 }
 
-void compare(tally *call, numbers input, numbers answer, numbers expected) {
+int compare(tally *call, numbers input, numbers answer, numbers expected) {
     call->compared++;
-    if (same(answer, expected)) return;
-    if (call->differ++ >= SHOWN) return;
+    if (same(answer, expected)) return 0;
+    if (call->differ++ >= SHOWN) return 0;
     printf("%s\n", call->name);
     show("input", input);
     show("answer", answer);
     show("expected", expected);
+    return 1;
 }
 
 int finish(const tally *calls, int count) {

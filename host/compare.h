@@ -25,7 +25,8 @@ typedef struct {
     unsigned long meant, compared, differ;
 } tally;
 
-void compare(tally *call, numbers input, numbers answer, numbers expected);
+/* Counts, and prints the first that differ. Answers 1 if it printed this one, else 0. */
+int compare(tally *call, numbers input, numbers answer, numbers expected);
 
 /* Prints a line for each call. 0 if no answer differs and all were compared that are meant, else 1. */
 int finish(const tally *calls, int count);

@@ -31,6 +31,7 @@ tc_hours_result plain_with_early_close(tc_hours hours, uint32_t time);
 tc_bool_result plain_is_early_close(tc_hours hours);
 tc_time_result plain_market_close(tc_hours hours);
 tc_bool_result plain_is_open_at(tc_hours hours, uint32_t time);
+tc_count_result plain_month_sheet(const uint8_t *text, size_t text_length, uint8_t *out, size_t out_length);
 
 /* For the parts of the plain calendar: the size of the table; the row of a date, or -1 if there is no such date; the weekday of
  * a row. */
