@@ -7,6 +7,7 @@
 #include "trading_calendar.h"
 
 #include <stdio.h>
+#include <stdlib.h>
 #include <string.h>
 
 enum call { SHEET, AGAIN, AS_LISTED, NO_ZEROS, UP_TO_104, CALLS };
@@ -162,14 +163,14 @@ static tc_count_result string_of(char *sheet, uint32_t market, uint32_t year, ui
     tc_count_result answer;
     text_of(text, 1, market, year, month);
     answer = ask(text, (uint8_t *)sheet, 104);
-    sheet[answer.error == 0 ? answer.count : 0] = '\0';
+    sheet[answer.error == 0 && answer.count <= 104 ? answer.count : 0] = '\0';
     return answer;
 }
 
 /* The first three lines are a text of the form, and its sheet is the same. */
 static void again(numbers in, const char *sheet) {
     const char *fourth = strstr(sheet, "count=");
-    uint8_t bytes[ROOM];
+    uint8_t bytes[ROOM] = {0};
     numbers answered = {3, {0}}, expected = {3, {0, (uint32_t)strlen(sheet), 1}};
     tc_count_result answer = tc_month_sheet((const uint8_t *)sheet, fourth == NULL ? 0 : (size_t)(fourth - sheet), bytes, ROOM);
     answered.values[0] = answer.error;
@@ -181,18 +182,18 @@ static void again(numbers in, const char *sheet) {
 /* The numbers of the sheet are those given, how many trading days the month has, and these. */
 static void as_listed(numbers in, const char *sheet) {
     unsigned long n[4] = {0};
-    unsigned day;
-    int read = 0, step = 0;
-    uint8_t listed[23], days[31] = {0};
-    uint32_t count = tc_trading_days_in_month(in.values[0], in.values[1], in.values[2], listed, sizeof listed).count, found = 0;
-    numbers answered, expected = {6, {in.values[0], in.values[1], in.values[2], count, count, 1}};
+    uint8_t listed[31], days[31] = {0};
+    uint32_t count = tc_trading_days_in_month(in.values[0], in.values[1], in.values[2], listed, sizeof listed).count;
+    numbers answered = {6, {0}}, expected = {6, {in.values[0], in.values[1], in.values[2], count, count, 1}};
+    int place = 0;
 
-    sscanf(sheet, "market=%lu\nyear=%lu\nmonth=%lu\ncount=%lu\ndays=%n", &n[0], &n[1], &n[2], &n[3], &read);
-    for (const char *rest = sheet + read; found < 31 && sscanf(rest, "%u%*1[,\n]%n", &day, &step) == 1; rest += step)
-        days[found++] = (uint8_t)day;
-    answered.count = 6;
+    sscanf(sheet, "market=%lu\nyear=%lu\nmonth=%lu\ncount=%lu\ndays=%n", &n[0], &n[1], &n[2], &n[3], &place);
     for (int i = 0; i < 4; i++) answered.values[i] = (uint32_t)n[i];
-    answered.values[4] = found;
+    while (sheet[place] != '\0' && answered.values[4] < 31) {
+        char *end;
+        days[answered.values[4]++] = (uint8_t)strtoul(sheet + place, &end, 10);
+        place = (int)(end - sheet) + (*end != '\0');
+    }
     answered.values[5] = memcmp(days, listed, count) == 0;
     compare(&calls[AS_LISTED], in, answered, expected);
 }

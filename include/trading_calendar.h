@@ -169,14 +169,14 @@ tc_time_result tc_market_close(tc_hours hours);
  * also for the time. */
 tc_bool_result tc_is_open_at(tc_hours hours, uint32_t time);
 
-/* Reads a market, a year and a month from text, as "market=4\nyear=2022\nmonth=12\n": these three lines in this order, each with 1 to
- * 9 decimal digits and a line feed, and no other byte [sheet-input]. Writes the sheet of the month from the start of out, with no 0
- * byte after it: the three lines, count= with how many trading days there are, days= with the days, ascending, with commas between
- * [sheet-output]. Answers how many bytes it wrote [sheet-return]; 104 are enough for every sheet. Neither pointer is null, also if a
- * length is 0, and the two do not overlap [host-calls]. Bytes past the sheet stay as they were, and with an error all do
- * [error-writes-nothing]. Error 10 if the text is not of this form; 8 if there is no such market; 1 if the year is outside 2020 to
- * 2030, with 1970-01-01 where the year and the month have no 1st [month-error-date]; 2 if the month is not 1 to 12; 9 if the sheet
- * does not fit into out_length bytes. */
+/* Reads a market, a year and a month from text, as "market=4\nyear=2022\nmonth=12\n": these three lines in this order, each with 1
+ * to 9 decimal digits and a line feed, and no other byte [sheet-input]. Writes the sheet of the month from the start of out, with
+ * no 0 byte after it: the three lines, count= with how many trading days there are, and days= with the days, ascending, with commas
+ * between [sheet-output]. Answers how many bytes it wrote [sheet-return]; 104 are enough for every sheet. Neither pointer is null,
+ * also if a length is 0, and text and out do not overlap [host-calls]. Bytes past the sheet stay as they were, and with an error
+ * all do [error-writes-nothing]. Error 10 if the text is not of this form; 8 if there is no such market; 1 if the year is outside
+ * 2020 to 2030, with 1970-01-01 where the year and the month have no 1st [month-error-date]; 2 if the month is not 1 to 12; 9 if
+ * the sheet does not fit into out_length bytes. */
 tc_count_result tc_month_sheet(const uint8_t *text, size_t text_length, uint8_t *out, size_t out_length);
 
 #ifdef __cplusplus
