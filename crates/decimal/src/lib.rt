@@ -9,10 +9,10 @@ ghost use Rattle.decimal.specs.Decimal.{decimal, leadingDigits, valueOf}
 pub fn digits(value: u32) -> usize
     ensures { λ r. ⌜ (r ≡ length (decimal value)) × (r ≤ 10) ⌝ }
 {
-    if value < 10 {
-        1
-    } else {
+    if value >= 10 {
         digits(value / 10) + 1
+    } else {
+        1
     }
 }
 

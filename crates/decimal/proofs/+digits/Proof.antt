@@ -29,13 +29,13 @@ module _ (t : ℕ) where
   digits-requires c κs = (omega (arith, c .before .pre .0), tt)
 
   returns : lts.Need-returns (below, digits.Post) here digits.Post
-  returns c = (omega (arith, length-one (c .before .args .value) (omega arith)), omega arith)
-
-  returns-2 : lts.Need-returns-2 (below, digits.Post) here digits.Post
-  returns-2 c =
+  returns c =
       let value = c .before .before .args .value in
       let more : c .digits .result + 1 ≡ length (decimal value) = omega (arith, length-more value (omega arith), c .digits .ensures .0) in
       (more, omega (arith, length-u32 value (omega arith)))
+
+  returns-2 : lts.Need-returns-2 (below, digits.Post) here digits.Post
+  returns-2 c = (omega (arith, length-one (c .before .args .value) (omega arith)), omega arith)
 
 pub +digits-spec : {M : Type 1} → statement M
 +digits-spec = close μ λ t. lts.spec (below t, digits.Post) (here t) digits.Post (digits-requires t) (search needs) (returns t) (returns-2 t)

@@ -26,6 +26,13 @@ module _ (t : ℕ) where
   abbrev below : In 1 kinds.ps
   below = and 1 kinds.ps (falls 1 kinds.ps _<_ μ t) write.Pre
 
+  -- the digits of the tenth, and then the last one
+  returns-2 : lts.Need-returns-2 (below, write.Post) here write.Post
+  returns-2 c =
+      let s = c .before .before .before .before .before .before in
+      let w = c .before .before .write in
+      write-more (s .args .value) (now (s .args .out)) _ (w .result) (omega arith) (s .pre .1) (w .ensures .0) (w .ensures .1)
+
   -- the one digit fits
   out-of-one : lts.Need-slice-write-out (below, write.Post) here write.Post
   out-of-one c = omega (arith, length-one (c .before .before .args .value) (omega arith))
@@ -48,12 +55,6 @@ module _ (t : ℕ) where
 
   same-length-2 : lts.Need-same-length-2 (below, write.Post) here write.Post
   same-length-2 c = simp length-set (c .before .before .write .kept .1 .0)
-
-  returns-2 : lts.Need-returns-2 (below, write.Post) here write.Post
-  returns-2 c =
-      let s = c .before .before .before .before .before .before in
-      let w = c .before .before .write in
-      write-more (s .args .value) (now (s .args .out)) _ (w .result) (omega arith) (s .pre .1) (w .ensures .0) (w .ensures .1)
 
 pub +write-spec : {M : Type 1} → statement M
 +write-spec =
