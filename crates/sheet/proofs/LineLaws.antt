@@ -1,30 +1,24 @@
 -- The laws of lines, and of numbers with commas between.
 -- Assumes nothing.
-use Prim.Native.Nat.{ℕ, zero, suc, _+_, _-_, _≤_}
+use Prim.Native.Nat.{ℕ, zero, suc, _+_, _-_, _≤_, _<_}
 use mathlib.Core.Path.{_≡_, refl, sym, ap, _∙_}
 use mathlib.Core.List.{List, [], _∷_, _++_, append-assoc, append-nil}
 use lib.ListN.{length, getD, take, drop, length-append}
+use lib.Seq.{drop-cons}
+use native.Mathlib.Numerals.{add-one}
 use native.Mathlib.Omega.{arith}
+use Rattle.buffers.specs.Buffers.{overwrite}
 use Rattle.buffers.proofs.BufferLaws.{rest-is}
 use Rattle.decimal.specs.Decimal.{decimal}
 use Rattle.request.specs.Text.{ascii, textOf}
-use Rattle.sheet.specs.Sheet.{commaSeparated, sheetText, fromDays, fromCount, fromMonth, fromYear}
+use Rattle.sheet.specs.Sheet.{commaSeparated, sheetLines, sheetLine, sheetFrom, sheetText}
 
 -- ---- lines
 
-pub text-line : (name content : List ℕ) (lines : List (List ℕ)) → textOf ((name ++ content) ∷ lines) ≡ name ++ (content ++ ascii "\n") ++ textOf lines
+-- the text from line k on is that line, and the text from the next one on
+pub text-from : (lines : List (List ℕ)) (k : ℕ) → k < length lines → textOf (drop k lines) ≡ getD lines k [] ++ ascii "\n" ++ textOf (drop (k + 1) lines)
 unfolding textOf
-text-line name content lines = ap (λ (l : List ℕ). l ++ textOf lines) (append-assoc name content (ascii "\n"))
-
-pub last-line : (name content : List ℕ) → textOf ((name ++ content) ∷ []) ≡ name ++ (content ++ ascii "\n")
-unfolding textOf
-last-line name content = text-line name content [] ∙ append-nil _
-
-pub length-line : (name content : List ℕ) (lines : List (List ℕ)) → length (textOf ((name ++ content) ∷ lines)) ≡ length name + length content + 1 + length (textOf lines)
-unfolding textOf
-length-line name content lines =
-    length-append ((name ++ content) ++ ascii "\n") (textOf lines)
-    ∙ ap (λ (k : ℕ). k + length (textOf lines)) (length-append (name ++ content) (ascii "\n") ∙ ap (λ (k : ℕ). k + 1) (length-append name content))
+text-from lines k h = ap textOf (drop-cons lines k [] h) ∙ ap (λ (n : ℕ). getD lines k [] ++ ascii "\n" ++ textOf (drop n lines)) (sym (add-one k))
 
 -- ---- numbers with commas between, and a line feed: none, one, and more
 
@@ -57,21 +51,28 @@ numbers-more (m ∷ l ∷ ns) n e h =
     ∙ ap (λ (r : List ℕ). decimal m ++ ascii "," ++ numbersLine r) (sym (rest-is (m ∷ l ∷ ns) 1))
     ∙ ap (λ (k : ℕ). decimal k ++ ascii "," ++ numbersLine (others (m ∷ l ∷ ns))) (sym e)
 
--- ---- the sheet: its names have 29 bytes, and the first four line feeds come to them
+-- ---- the sheet
 
+pub sheet-from : (k market year month : ℕ) (days : List ℕ) → k < 4
+    → sheetFrom k market year month days ≡ sheetLine k market year month days ++ sheetFrom (k + 1) market year month days
+unfolding sheetLines
+sheet-from k market year month days h = text-from (sheetLines market year month days) k (omega arith)
+
+pub sheet-last : (k market year month : ℕ) (days : List ℕ) → k ≡ 4 → sheetFrom k market year month days ≡ ascii "days=" ++ numbersLine days
+unfolding sheetLines textOf
+sheet-last k market year month days e = ap (λ (i : ℕ). sheetFrom i market year month days) e ∙ append-nil (ascii "days=" ++ numbersLine days)
+
+-- line k where k is known to be j
+module _ (k j market year month : ℕ) (days out : List ℕ) (e : k ≡ j) where
+  pub line-fits : length (sheetLine k market year month days) ≤ length out → length (sheetLine j market year month days) ≤ length out
+  line-fits h = rw e at h
+
+  pub line-written : (n : ℕ) (l : List ℕ) → (n ≡ length (sheetLine j market year month days)) × (l ≡ overwrite (sheetLine j market year month days) out)
+      → (n ≡ length (sheetLine k market year month days)) × (l ≡ overwrite (sheetLine k market year month days) out)
+  line-written n l w = rw e w
+
+-- its names have 29 bytes, and the first four line feeds come to them
 pub sheet-lengths : (market year month : ℕ) (days : List ℕ) → length (sheetText market year month days)
     ≡ 33 + (length (decimal market) + length (decimal year) + length (decimal month)) + length (decimal (length days)) + length (numbersLine days)
-unfolding sheetText
-sheet-lengths market year month days =
-    let l = fromDays days in
-    let c = fromCount days in
-    let m = fromMonth month days in
-    let last = ap length (last-line (ascii "days=") (commaSeparated days)) ∙ length-append (ascii "days=") (numbersLine days) in
-    omega (
-      arith,
-      length-line (ascii "market=") (decimal market) (fromYear year month days),
-      length-line (ascii "year=") (decimal year) m,
-      length-line (ascii "month=") (decimal month) c,
-      length-line (ascii "count=") (decimal (length days)) l,
-      last,
-    )
+unfolding sheetLines textOf
+sheet-lengths market year month days = simp length-append (omega arith)

@@ -20,7 +20,7 @@ use Rattle.decimal.proofs.DecimalLaws.{length-at-most}
 use Rattle.calendar.specs.Calls.{isSupported}
 use Rattle.calendar.proofs.CallLaws.{supported-years}
 use Rattle.request.specs.Text.{textOf}
-use Rattle.sheet.specs.Sheet.{commaSeparated, sheetText, monthSheet}
+use Rattle.sheet.specs.Sheet.{commaSeparated, sheetLines, monthSheet}
 
 two-digits : (n : ℕ) → n ≤ 31 → length (decimal n) ≤ 2
 two-digits n h = length-at-most 1 n (omega arith)
@@ -35,7 +35,7 @@ numbers-length (n ∷ m ∷ ns) e = simp length-append (omega (arith, two-digits
 -- [sheet-output], for the months without errors 8, 1 and 2
 pub sheet-length : (market year month : ℕ) → market ≤ 4 → isSupported year ≡ true → (leb 1 month && leb month 12) ≡ true
     → length (monthSheet market year month) ≤ 136
-unfolding sheetText textOf
+unfolding sheetLines textOf
 sheet-length market year month k s m =
     let to = leb-true month 12 (and-right (leb 1 month) _ m) in
     let days = monthList market year month in

@@ -25,7 +25,7 @@ fn write_fitting(market: u32, year: u32, month: u32, days: &[u8], out: &mut [u8]
     if out.len() < needed {
         return CountResult::Err(CalendarError::BufferTooSmall(needed as u32));
     }
-    CountResult::Ok(lines::write_sheet(market, year, month, days, out) as u32)
+    CountResult::Ok(lines::write_lines(0, market, year, month, days, out) as u32)
 }
 
 // The first of errors 8, 1, 2 and 9 that applies, or the sheet with the days of the month list.

@@ -1,13 +1,13 @@
-// The writer of the sheet [sheet-output]. Each line's writer ends by lending what is left of the buffer to the writer of the next
-// line. All answer how many bytes were written. Labels in brackets are those of docs/SCOPE.md.
+// The writer of the sheet [sheet-output]. All functions answer how many bytes they wrote. Labels in brackets are those of
+// docs/SCOPE.md.
 ghost use mathlib.Core.Path.{_≡_};
 ghost use mathlib.Core.List.{[], _∷_, _++_};
-ghost use Prim.Native.Nat.{_≤_};
+ghost use Prim.Native.Nat.{_≤_, _<_};
 ghost use lib.ListN.{length};
 ghost use Rattle.buffers.specs.Buffers.{overwrite};
 ghost use Rattle.decimal.specs.Decimal.{decimal};
-ghost use Rattle.request.specs.Text.{ascii, textOf};
-ghost use Rattle.sheet.specs.Sheet.{commaSeparated, fromDays, fromCount, fromMonth, fromYear, sheetText};
+ghost use Rattle.request.specs.Text.{ascii};
+ghost use Rattle.sheet.specs.Sheet.{commaSeparated, sheetLine, sheetFrom};
 use crate::length::wide;
 
 // A number, and the byte that ends it.
@@ -49,47 +49,44 @@ fn write_numbers(numbers: &[u8], out: &mut [u8]) -> usize
 }
 
 fn write_days(days: &[u8], out: &mut [u8]) -> usize
-    requires { ⌜ length (textOf (fromDays (now days))) ≤ length (now out) ⌝ }
-    ensures { λ r. ⌜ (r ≡ length (textOf (fromDays (now (days .entry)))))
-        × (now (out .exit) ≡ overwrite (textOf (fromDays (now (days .entry)))) (now (out .entry))) ⌝ }
+    requires { ⌜ length (ascii "days=" ++ (commaSeparated (now days) ++ ascii "\n")) ≤ length (now out) ⌝ }
+    ensures { λ r. ⌜ (r ≡ length (ascii "days=" ++ (commaSeparated (now (days .entry)) ++ ascii "\n")))
+        × (now (out .exit) ≡ overwrite (ascii "days=" ++ (commaSeparated (now (days .entry)) ++ ascii "\n")) (now (out .entry))) ⌝ }
 {
     let n = buffers::write(b"days=", out);
     n + write_numbers(days, &mut out[n..])
 }
 
-fn write_count(days: &[u8], out: &mut [u8]) -> usize
-    requires { ⌜ (length (now days) ≤ 31) × (length (textOf (fromCount (now days))) ≤ length (now out)) ⌝ }
-    ensures { λ r. ⌜ (r ≡ length (textOf (fromCount (now (days .entry)))))
-        × (now (out .exit) ≡ overwrite (textOf (fromCount (now (days .entry)))) (now (out .entry))) ⌝ }
+// One of the first four lines, by its number.
+fn write_field(line: u32, market: u32, year: u32, month: u32, days: &[u8], out: &mut [u8]) -> usize
+    requires { ⌜ (line < 4) × (length (now days) ≤ 31) × (length (sheetLine line market year month (now days)) ≤ length (now out)) ⌝ }
+    ensures { λ r. ⌜ (r ≡ length (sheetLine line market year month (now (days .entry))))
+        × (now (out .exit) ≡ overwrite (sheetLine line market year month (now (days .entry))) (now (out .entry))) ⌝ }
 {
-    let n = write_line(b"count=", days.len() as u32, out);
-    n + write_days(days, &mut out[n..])
+    match line {
+        0 => write_line(b"market=", market, out),
+        1 => write_line(b"year=", year, out),
+        2 => write_line(b"month=", month, out),
+        _ => write_line(b"count=", days.len() as u32, out),
+    }
 }
 
-fn write_month(month: u32, days: &[u8], out: &mut [u8]) -> usize
-    requires { ⌜ (length (now days) ≤ 31) × (length (textOf (fromMonth month (now days))) ≤ length (now out)) ⌝ }
-    ensures { λ r. ⌜ (r ≡ length (textOf (fromMonth month (now (days .entry)))))
-        × (now (out .exit) ≡ overwrite (textOf (fromMonth month (now (days .entry)))) (now (out .entry))) ⌝ }
+// [sheet-output]: the lines from this number on. What is left of the buffer after a line is lent on for the next.
+pub fn write_lines(
+    line: u32,
+    market: u32,
+    year: u32,
+    month: u32,
+    days: &[u8],
+    out: &mut [u8],
+) -> usize
+    requires { ⌜ (line ≤ 4) × (length (now days) ≤ 31) × (length (sheetFrom line market year month (now days)) ≤ length (now out)) ⌝ }
+    ensures { λ r. ⌜ (r ≡ length (sheetFrom line market year month (now (days .entry))))
+        × (now (out .exit) ≡ overwrite (sheetFrom line market year month (now (days .entry))) (now (out .entry))) ⌝ }
 {
-    let n = write_line(b"month=", month, out);
-    n + write_count(days, &mut out[n..])
-}
-
-fn write_year(year: u32, month: u32, days: &[u8], out: &mut [u8]) -> usize
-    requires { ⌜ (length (now days) ≤ 31) × (length (textOf (fromYear year month (now days))) ≤ length (now out)) ⌝ }
-    ensures { λ r. ⌜ (r ≡ length (textOf (fromYear year month (now (days .entry)))))
-        × (now (out .exit) ≡ overwrite (textOf (fromYear year month (now (days .entry)))) (now (out .entry))) ⌝ }
-{
-    let n = write_line(b"year=", year, out);
-    n + write_month(month, days, &mut out[n..])
-}
-
-// [sheet-output]
-pub fn write_sheet(market: u32, year: u32, month: u32, days: &[u8], out: &mut [u8]) -> usize
-    requires { ⌜ (length (now days) ≤ 31) × (length (sheetText market year month (now days)) ≤ length (now out)) ⌝ }
-    ensures { λ r. ⌜ (r ≡ length (sheetText market year month (now (days .entry))))
-        × (now (out .exit) ≡ overwrite (sheetText market year month (now (days .entry))) (now (out .entry))) ⌝ }
-{
-    let n = write_line(b"market=", market, out);
-    n + write_year(year, month, days, &mut out[n..])
+    if line == 4 {
+        return write_days(days, out);
+    }
+    let n = write_field(line, market, year, month, days, out);
+    n + write_lines(line + 1, market, year, month, days, &mut out[n..])
 }

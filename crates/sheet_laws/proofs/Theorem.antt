@@ -27,7 +27,7 @@ use Rattle.decimal.proofs.DecimalLaws.{length-positive, length-at-most, decimal
 use Rattle.request.specs.declared.Request.{Request}
 use Rattle.request.specs.Text.{ascii, textOf}
 use Rattle.request.specs.Request.{requestText, readRequest}
-use Rattle.sheet.specs.Sheet.{commaSeparated, sheetText, monthSheet}
+use Rattle.sheet.specs.Sheet.{commaSeparated, sheetLines, monthSheet}
 use Rattle.sheet.specs.Call.{SheetResult, sheetOfMonth, sheetOfRequest, sheetWritten, sheetBuffer}
 use Rattle.request.proofs.Form.{reads-the-form}
 use Rattle.sheet.proofs.CallLaws.{sheet-by-check}
@@ -105,7 +105,7 @@ module _ (market year month : ℕ) (k : NoMonthError market year month) where
       ∷ (ascii "days=" ++ commaSeparated days)
       ∷ []
       ∷ []
-  unfolding sheetText
+  unfolding sheetLines
   lines =
       let m = named (ascii "market=") (omega arith) market in
       let y = named (ascii "year=") (omega arith) year in
