@@ -1,10 +1,10 @@
 -- The laws of bytes written to the start of a buffer, and of the rest of a slice.
 -- Assumes nothing.
-use Prim.Native.Nat.{ℕ, suc, _+_, _-_, _≤_, _<_}
+use Prim.Native.Nat.{ℕ, _+_, _-_, _≤_, _<_}
 use mathlib.Core.Path.{_≡_, refl, sym, ap, _∙_}
 use mathlib.Core.List.{List, [], _∷_, _++_, append-assoc, append-nil}
-use lib.ListN.{length, take, drop, getD, set, length-append, length-drop}
-use lib.Seq.{drop-drop, take-suc, take-at, drop-at, take-length, drop-length, drop-cons, length-take-le, set-at}
+use lib.ListN.{length, take, drop, set, length-append, length-drop}
+use lib.Seq.{drop-drop, take-at, drop-at, take-length, drop-length, drop-cons, set-at}
 use native.Mathlib.Numerals.{add-one}
 use native.Mathlib.Omega.{arith}
 use borrow.Rule.Slice.PartMut.{putMid}

@@ -2,12 +2,12 @@
 -- Assumes nothing.
 use Prim.Native.Nat.{ℕ, _^_, _≤_, _<_}
 use mathlib.Core.Path.{_≡_, refl, sym, ap, _∙_}
-use mathlib.Core.Bool.{Bool, true, false, cond, _&&_}
+use mathlib.Core.Bool.{Bool, true, false, cond}
 use mathlib.Core.List.{List, [], _∷_, _++_, map}
 use lib.Dec.{ltb, leb}
 use lib.ListN.{length, take, length-map}
 use native.Mathlib.Omega.{arith}
-use borrow.Author.Tests.{ltb-false, leb-true}
+use borrow.Author.Tests.{leb-true}
 use Rattle.gregorian.specs.Calendar.{monthLength}
 use Rattle.gregorian.proofs.Formulas.{month-high}
 use Rattle.gregorian.proofs.Tests.{and-left, and-right}
@@ -18,7 +18,6 @@ use Rattle.trading_days.proofs.MonthDayLaws.{list-in-month, list-length}
 use Rattle.buffers.proofs.BufferLaws.{overwrite-start}
 use Rattle.error.specs.declared.CountResult.{CountResult}
 use Rattle.error.specs.declared.CalendarError.the-variants.{BufferTooSmall}
-use Rattle.calendar.specs.Calls.{isSupported}
 use Rattle.calendar.specs.RangeCalls.{MonthCheck, checkedMonth, writtenResult, finalBuffer, tradingDaysInMonthResult, tradingDaysInMonthBuffer}
 use Rattle.calendar.proofs.CallLaws.{supported-years}
 use Rattle.calendar.proofs.MonthLaws.{NoMonthError, month-checked, written-ok, month-of-years}

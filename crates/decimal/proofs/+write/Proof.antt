@@ -1,13 +1,11 @@
 -- `decimal::write` meets its contract: the digits of a tenth of the number, and then its last digit. The number falls.
-use Prim.Native.Nat.{ℕ, _/_, _≤_, _<_}
-use mathlib.Core.Path.{_≡_}
-use lib.ListN.{length, length-set}
+use Prim.Native.Nat.{ℕ, _<_}
+use lib.ListN.{length-set}
 use native.Mathlib.Omega.{arith}
 use borrow.Fn.Kinds.{In}
 use borrow.Fn.PlainCycle.{Measures, is, falls, and}
 use borrow.Author.Needs.{needs}
 use denote.Ref.{now}
-use Rattle.decimal.specs.Decimal.{decimal}
 use Rattle.decimal.proofs.DecimalLaws.{length-one, length-more, write-one, write-more}
 use Rattle.decimal.proofs.write.Reads as write
 use Rattle.decimal.proofs.write.Kinds as kinds

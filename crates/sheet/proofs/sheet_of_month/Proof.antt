@@ -5,12 +5,10 @@ use mathlib.Core.List.{List}
 use lib.ListN.{length, take, replicate}
 use native.Mathlib.Omega.{arith}
 use borrow.Author.Needs.{needs}
-use denote.Ref.{now}
 use Rattle.trading_days.specs.Month.{monthList}
 use Rattle.trading_days.proofs.MonthDayLaws.{list-length}
 use Rattle.error.specs.declared.CountResult.{CountResult}
 use Rattle.calendar.specs.RangeCalls.{tradingDaysInMonthResult, tradingDaysInMonthBuffer}
-use Rattle.sheet.specs.Call.{SheetResult, sheetWritten, sheetBuffer}
 use Rattle.sheet.proofs.CallLaws.{month-error, days-bound, days-listed, sheet-written}
 use Rattle.sheet.proofs.sheet_of_month.Statement.{statement}
 use Rattle.sheet.proofs.sheet_of_month.Tie as tie

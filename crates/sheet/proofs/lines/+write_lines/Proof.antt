@@ -1,6 +1,6 @@
 -- `sheet::lines::write_lines` meets its contract: a line, and the lines after it in what is left of the buffer. The lines left get fewer.
 use Prim.Native.Nat.{ℕ, _+_, _-_, _≤_, _<_}
-use mathlib.Core.Path.{_≡_, ap, _∙_}
+use mathlib.Core.Path.{_≡_}
 use mathlib.Core.List.{List, _++_}
 use lib.ListN.{length}
 use native.Mathlib.Omega.{arith}

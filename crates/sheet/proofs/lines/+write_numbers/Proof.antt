@@ -1,8 +1,8 @@
 -- `sheet::lines::write_numbers` meets its contract: the first number, and the others in what is left of the buffer. The list gets shorter.
-use Prim.Native.Nat.{ℕ, _≤_, _<_}
-use mathlib.Core.Path.{_≡_, refl, sym, ap, _∙_}
-use mathlib.Core.List.{List, _++_}
-use lib.ListN.{length, getD}
+use Prim.Native.Nat.{ℕ, _<_}
+use mathlib.Core.Path.{ap}
+use mathlib.Core.List.{_++_}
+use lib.ListN.{length}
 use native.Mathlib.Omega.{arith}
 use borrow.Fn.Kinds.{In}
 use borrow.Fn.PlainCycle.{Measures, is, falls, and}
