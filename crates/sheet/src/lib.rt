@@ -3,6 +3,7 @@
 mod length;
 mod lines;
 
+pub use lines::write_line;
 ghost use mathlib.Core.Path.{_≡_};
 ghost use Prim.Native.Nat.{_≤_};
 ghost use lib.ListN.{length};

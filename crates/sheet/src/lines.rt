@@ -22,7 +22,7 @@ fn write_number(number: u32, end: u8, out: &mut [u8]) -> usize
 }
 
 // A line: its name, a number and a line feed.
-fn write_line(name: &[u8], number: u32, out: &mut [u8]) -> usize
+pub fn write_line(name: &[u8], number: u32, out: &mut [u8]) -> usize
     requires { ⌜ length (now name ++ (decimal number ++ ascii "\n")) ≤ length (now out) ⌝ }
     ensures { λ r. ⌜ (r ≡ length (now (name .entry) ++ (decimal number ++ ascii "\n")))
         × (now (out .exit) ≡ overwrite (now (name .entry) ++ (decimal number ++ ascii "\n")) (now (out .entry))) ⌝ }

@@ -1,0 +1,39 @@
+-- `month_sheet::output::print` meets its contract: the sheet as the call writes it, or the line with the number of its error.
+use Prim.Native.Nat.{ℕ}
+use mathlib.Core.Path.{_≡_}
+use mathlib.Core.List.{List}
+use lib.ListN.{length}
+use borrow.Author.Needs.{needs}
+use denote.Ref.{now}
+use Rattle.month_sheet.proofs.PrintLaws.{sheet-printed, line-fits, line-printed}
+use Rattle.month_sheet.proofs.output.print.Statement.{statement}
+use Rattle.month_sheet.proofs.output.print.Tie as tie
+
+-- the call's answer, and its buffer of 136 bytes
+module _ (s : tie.After-tc-month-sheet) where
+  abbrev text : List ℕ
+  text = now (s .before .before .before .args .text)
+
+  abbrev buffer : List ℕ
+  buffer = now (s .before .before .before .args .out)
+
+  room : length buffer ≡ 136
+  room = search needs
+
+returns : tie.Need-returns
+returns c =
+    let s = c .before .before .before in
+    sheet-printed (text s) (buffer s) (room s) _ _ (s .tc-month-sheet .ensures) (c .before .if1 .taken)
+
+write-line-requires : tie.Need-write-line-requires
+write-line-requires c κs =
+    let s = c .before .before .before .before in
+    line-fits (text s) (buffer s) (room s) _ _ (s .tc-month-sheet .ensures) (c .before .before .if1 .left)
+
+returns-2 : tie.Need-returns-2
+returns-2 c =
+    let s = c .before .before .before .before .before in
+    line-printed (text s) (buffer s) (room s) _ _ (s .tc-month-sheet .ensures) (c .before .before .before .if1 .left) _ _ (c .write-line .ensures)
+
+pub print-spec : {M : Type 1} → statement M
+print-spec = tie.close (tie.spec (search needs) (search needs) returns (search needs) write-line-requires returns-2)

@@ -1,0 +1,17 @@
+// Prints the month sheet that standard input asks for, or the number of the error [sheet-program]. Labels in brackets are those of
+// docs/SCOPE.md.
+mod input;
+mod output;
+
+use input::INPUT_LENGTH;
+use libc::STDIN_FILENO;
+use libc::STDOUT_FILENO;
+use output::OUTPUT_LENGTH;
+
+fn main() {
+    let mut text = [0; INPUT_LENGTH];
+    let length = input::read(STDIN_FILENO, &mut text);
+    let mut out = [0; OUTPUT_LENGTH];
+    let count = output::print(&text[..length], &mut out);
+    io::write_all(STDOUT_FILENO, &out[..count]);
+}
