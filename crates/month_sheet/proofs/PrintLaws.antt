@@ -2,24 +2,21 @@
 -- Assumes nothing.
 use Prim.Native.Nat.{ℕ, _≤_}
 use mathlib.Core.Path.{_≡_, refl, sym, ap, _∙_}
-use mathlib.Core.List.{List, _++_}
-use lib.ListN.{length, drop, length-append}
-use lib.Seq.{length-take-le}
+use mathlib.Core.List.{List}
+use lib.ListN.{length, length-append}
 use native.Mathlib.Omega.{arith}
-use Rattle.io.specs.Counts.{Counts}
 use Rattle.buffers.specs.Buffers.{overwrite}
-use Rattle.decimal.specs.Decimal.{decimal}
 use Rattle.decimal.proofs.DecimalLaws.{length-at-most}
 use Rattle.error.specs.declared.CountResult.{CountResult}
 use Rattle.error.specs.declared.CalendarError.{CalendarError}
-use Rattle.error.specs.declared.CalendarError.the-variants.{MalformedText, UnknownMarket, InvalidDate, TimeOutOfRange, DateOutOfRange, InvalidDateCalculation, NoTradingDayFound, BufferTooSmall, InvalidSession, InvalidTime}
+use Rattle.error.specs.declared.CalendarError.the-variants.{MalformedText, UnknownMarket, InvalidDate, TimeOutOfRange, DateOutOfRange}
+use Rattle.error.specs.declared.CalendarError.the-variants.{InvalidDateCalculation, NoTradingDayFound, BufferTooSmall, InvalidSession, InvalidTime}
 use Rattle.error.specs.Errors.{errorFields, errorNumber}
 use Rattle.calendar.specs.RangeCalls.{MonthCheck, checkedMonth, writtenResult, finalBuffer}
-use Rattle.calendar.proofs.MonthLaws.{NoMonthError, month-checked, written-ok}
+use Rattle.calendar.proofs.MonthLaws.{month-checked, written-ok}
 use Rattle.answers.specs.declared.counts.CountAnswer.{CountAnswer}
 use Rattle.answers.specs.Answers.{countAnswer}
 use Rattle.request.specs.declared.Request.{Request}
-use Rattle.request.specs.Text.{ascii}
 use Rattle.request.specs.Request.{readRequest}
 use Rattle.sheet.specs.Sheet.{monthSheet}
 use Rattle.sheet.specs.Call.{SheetResult, sheetOfMonth, sheetOfRequest, sheetOf, sheetWritten, sheetBuffer, monthSheetResult, monthSheetBuffer}
@@ -66,18 +63,11 @@ refused-length n h = simp length-append (omega (arith, length-at-most 1 n (omega
 
 -- ---- what the call answers, and what the buffer holds after it
 
--- So many bytes were written to the start of the buffer.
-counts : (bytes buffer out : List ℕ) (n : ℕ) → n ≡ length bytes → out ≡ overwrite bytes buffer → Counts n out
-unfolding overwrite
-counts bytes buffer out n l q =
-    let fits : n ≤ length out = omega (arith, ap length q, length-append bytes (drop (length bytes) buffer)) in
-    (fits, sym (length-take-le n out fits))
-
 module _ (text buffer : List ℕ) (room : length buffer ≡ 136) (a : CountAnswer) (out : List ℕ)
     (w : (a ≡ countAnswer (monthSheetResult text buffer)) × (out ≡ monthSheetBuffer text buffer)) where
   -- what print has to answer, and what the buffer has to hold at the end
   abbrev Prints : ℕ → List ℕ → Type 0
-  Prints n final = ((n ≡ length (printed text)) × (final ≡ overwrite (printed text) buffer)) × Counts n final
+  Prints n final = (n ≡ length (printed text)) × (final ≡ overwrite (printed text) buffer)
 
   -- a sheet fits
   no-error-9 : (bytes : List ℕ) → sheetOf text ≡ SheetResult.Ok bytes → writtenResult bytes buffer ≡ CountResult.Ok (length bytes)
@@ -86,7 +76,7 @@ module _ (text buffer : List ℕ) (room : length buffer ≡ 136) (a : CountAnswe
   -- Without an error the bytes are the sheet's.
   pub sheet-printed : a .error ≡ 0 → Prints (a .count) out
   unfolding countAnswer
-  sheet-printed z = let p = by (sheetOf text) refl (w .0) (w .1) in (p, counts (printed text) buffer out (a .count) (p .0) (p .1))
+  sheet-printed z = by (sheetOf text) refl (w .0) (w .1)
     where
       by : (r : SheetResult) → sheetOf text ≡ r → a ≡ countAnswer (sheetWritten r buffer) → out ≡ sheetBuffer r buffer
           → (a .count ≡ length (printedResult r)) × (out ≡ overwrite (printedResult r) buffer)
@@ -96,14 +86,14 @@ module _ (text buffer : List ℕ) (room : length buffer ≡ 136) (a : CountAnswe
       by (SheetResult.Err d) e p q = absurd (omega (arith, ap (λ (x : CountAnswer). x .error) p, error-number d))
 
   -- With one the buffer is as it was, and what is to be printed is the line of its number.
-  module _ (z : a .error ≡ 0 → ⊥) where
+  module _ (z : 1 ≤ a .error) where
     refused : (printed text ≡ refusedLine (a .error)) × (out ≡ buffer) × (length (refusedLine (a .error)) ≤ 136)
     unfolding countAnswer
     refused = by (sheetOf text) refl (w .0) (w .1)
       where
         by : (r : SheetResult) → sheetOf text ≡ r → a ≡ countAnswer (sheetWritten r buffer) → out ≡ sheetBuffer r buffer
             → (printedResult r ≡ refusedLine (a .error)) × (out ≡ buffer) × (length (refusedLine (a .error)) ≤ 136)
-        by (SheetResult.Ok bytes) e p q = absurd (z (ap (λ (x : CountAnswer). x .error) (p ∙ ap countAnswer (no-error-9 bytes e))))
+        by (SheetResult.Ok bytes) e p q = absurd (omega (arith, ap (λ (x : CountAnswer). x .error) (p ∙ ap countAnswer (no-error-9 bytes e))))
         by (SheetResult.Err d) e p q =
             let number : a .error ≡ errorNumber d = ap (λ (x : CountAnswer). x .error) p in
             (ap refusedLine (sym number), q, refused-length (a .error) (omega (arith, error-number d)))
@@ -111,9 +101,8 @@ module _ (text buffer : List ℕ) (room : length buffer ≡ 136) (a : CountAnswe
     pub line-fits : length (refusedLine (a .error)) ≤ length out
     line-fits = omega (arith, refused .2, room, ap length (refused .1))
 
-    pub line-printed : (n : ℕ) (final : List ℕ) → (n ≡ length (refusedLine (a .error))) × (final ≡ overwrite (refusedLine (a .error)) out) → Prints n final
+    pub line-printed : (n : ℕ) (final : List ℕ) → (n ≡ length (refusedLine (a .error))) × (final ≡ overwrite (refusedLine (a .error)) out)
+        → Prints n final
     line-printed n final (l, q) =
         let whole = sym (refused .0) in
-        let l′ = l ∙ ap length whole in
-        let q′ = q ∙ (λ j. overwrite (whole j) (refused .1 j)) in
-        ((l′, q′), counts (printed text) buffer final n l′ q′)
+        (l ∙ ap length whole, q ∙ (λ j. overwrite (whole j) (refused .1 j)))

@@ -9,9 +9,9 @@ use libc::STDOUT_FILENO;
 use output::OUTPUT_LENGTH;
 
 fn main() {
-    let mut text = [0; INPUT_LENGTH];
-    let length = input::read(STDIN_FILENO, &mut text);
+    let mut buffer = [0; INPUT_LENGTH];
+    let n = input::read(STDIN_FILENO, &mut buffer);
     let mut out = [0; OUTPUT_LENGTH];
-    let count = output::print(&text[..length], &mut out);
+    let count = output::print_input(&buffer, n, &mut out);
     io::write_all(STDOUT_FILENO, &out[..count]);
 }

@@ -3,6 +3,7 @@ use Prim.Native.Nat.{ℕ}
 use mathlib.Core.Path.{_≡_}
 use mathlib.Core.List.{List}
 use lib.ListN.{length}
+use native.Mathlib.Omega.{arith}
 use borrow.Author.Needs.{needs}
 use denote.Ref.{now}
 use Rattle.month_sheet.proofs.PrintLaws.{sheet-printed, line-fits, line-printed}
@@ -23,17 +24,17 @@ module _ (s : tie.After-tc-month-sheet) where
 returns : tie.Need-returns
 returns c =
     let s = c .before .before .before in
-    sheet-printed (text s) (buffer s) (room s) _ _ (s .tc-month-sheet .ensures) (c .before .if1 .taken)
+    sheet-printed (text s) (buffer s) (room s) _ _ (s .tc-month-sheet .ensures) (omega arith)
 
 write-line-requires : tie.Need-write-line-requires
 write-line-requires c κs =
     let s = c .before .before .before .before in
-    line-fits (text s) (buffer s) (room s) _ _ (s .tc-month-sheet .ensures) (c .before .before .if1 .left)
+    line-fits (text s) (buffer s) (room s) _ _ (s .tc-month-sheet .ensures) (omega arith)
 
 returns-2 : tie.Need-returns-2
 returns-2 c =
     let s = c .before .before .before .before .before in
-    line-printed (text s) (buffer s) (room s) _ _ (s .tc-month-sheet .ensures) (c .before .before .before .if1 .left) _ _ (c .write-line .ensures)
+    line-printed (text s) (buffer s) (room s) _ _ (s .tc-month-sheet .ensures) (omega arith) _ _ (c .write-line .ensures)
 
 pub print-spec : {M : Type 1} → statement M
 print-spec = tie.close (tie.spec (search needs) (search needs) returns (search needs) write-line-requires returns-2)
