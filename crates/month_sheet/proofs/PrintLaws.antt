@@ -63,7 +63,7 @@ refused-length n h = simp length-append (omega (arith, length-at-most 1 n (omega
 
 -- ---- what the call answers, and what the buffer holds after it
 
-module _ (text buffer : List ℕ) (room : length buffer ≡ 136) (a : CountAnswer) (out : List ℕ)
+module _ (text buffer : List ℕ) (room : 136 ≤ length buffer) (a : CountAnswer) (out : List ℕ)
     (w : (a ≡ countAnswer (monthSheetResult text buffer)) × (out ≡ monthSheetBuffer text buffer)) where
   -- what print has to answer, and what the buffer has to hold at the end
   abbrev Prints : ℕ → List ℕ → Type 0

@@ -1,6 +1,5 @@
 -- `month_sheet::output::print` meets its contract: the sheet as the call writes it, or the line with the number of its error.
-use Prim.Native.Nat.{ℕ}
-use mathlib.Core.Path.{_≡_}
+use Prim.Native.Nat.{ℕ, _≤_}
 use mathlib.Core.List.{List}
 use lib.ListN.{length}
 use native.Mathlib.Omega.{arith}
@@ -10,7 +9,7 @@ use Rattle.month_sheet.proofs.PrintLaws.{sheet-printed, line-fits, line
 use Rattle.month_sheet.proofs.output.print.Statement.{statement}
 use Rattle.month_sheet.proofs.output.print.Tie as tie
 
--- the call's answer, and its buffer of 136 bytes
+-- the text and the buffer that the call was given
 module _ (s : tie.After-tc-month-sheet) where
   abbrev text : List ℕ
   text = now (s .before .before .before .args .text)
@@ -18,7 +17,8 @@ module _ (s : tie.After-tc-month-sheet) where
   abbrev buffer : List ℕ
   buffer = now (s .before .before .before .args .out)
 
-  room : length buffer ≡ 136
+  -- Every sheet fits.
+  room : 136 ≤ length buffer
   room = search needs
 
 returns : tie.Need-returns
