@@ -4,8 +4,8 @@ ghost use Rattle.io.specs.Counts.{Counts};
 // One byte more than the longest text of the form has: of a longer input so much is malformed, as the whole is.
 pub const INPUT_LENGTH: usize = 49;
 
-// Reads until the buffer is full or the input ends, and answers how many bytes were read. A read may bring fewer than there are. Where
-// one fails, none of the bytes counts: there is no text.
+// Reads until the buffer is full or the input ends, and answers how many bytes were read; a read may bring fewer than there are. Where
+// one fails the answer is 0, for no text: what came before the failure is never printed as a sheet.
 pub fn read(fd: i32, buffer: &mut [u8]) -> usize
     ensures { λ r. ⌜ Counts r (now (buffer .exit)) ⌝ }
 {
