@@ -20,28 +20,17 @@ use Rattle.request.specs.declared.Request.{Request}
 use Rattle.request.specs.Request.{readRequest}
 use Rattle.sheet.specs.Sheet.{monthSheet}
 use Rattle.sheet.specs.Call.{SheetResult, sheetOfMonth, sheetOfRequest, sheetOf, sheetWritten, sheetBuffer, monthSheetResult, monthSheetBuffer}
-use Rattle.sheet.proofs.CallLaws.{sheet-by-check}
+use Rattle.sheet.proofs.CallLaws.{sheet-asked}
 use Rattle.sheet.proofs.SheetLength.{sheet-length}
 use Rattle.month_sheet.specs.Printed.{refusedLine, printedResult, printed}
 
 -- ---- how long it is
 
 -- the sheet of a month, and that of a request
-month-fits : (market year month : ℕ) (bytes : List ℕ) → sheetOfMonth market year month ≡ SheetResult.Ok bytes → length bytes ≤ 136
-month-fits market year month bytes e = by (checkedMonth market year month) refl
-  where
-    by : (k : MonthCheck) → checkedMonth market year month ≡ k → length bytes ≤ 136
-    by MonthCheck.Ok c =
-        let k = month-checked market year month c in
-        let z : SheetResult.Ok (monthSheet market year month) ≡ SheetResult.Ok bytes = sym (sheet-by-check market year month _ c) ∙ e in
-        let same : monthSheet market year month ≡ bytes = cc in
-        omega (arith, ap length same, sheet-length market year month (k .known) (k .supported) (k .is-month))
-    by (MonthCheck.Err d) c =
-        let z : SheetResult.Err d ≡ SheetResult.Ok bytes = sym (sheet-by-check market year month _ c) ∙ e in
-        absurd (let z : _≡_ {A = ℕ} 0 1 = cc in omega arith)
-
 sheet-fits : (r : Request) (bytes : List ℕ) → sheetOfRequest r ≡ SheetResult.Ok bytes → length bytes ≤ 136
-sheet-fits (Request.Month market year month) bytes e = month-fits market year month bytes e
+sheet-fits (Request.Month market year month) bytes e =
+    let a = sheet-asked market year month bytes e in
+    omega (arith, ap length (a .1), sheet-length market year month (a .0 .known) (a .0 .supported) (a .0 .is-month))
 sheet-fits Request.Malformed bytes e = absurd (let z : _≡_ {A = ℕ} 0 1 = cc in omega arith)
 
 -- the number of an error, which is never that of none

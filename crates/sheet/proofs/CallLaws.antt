@@ -12,7 +12,7 @@ use Rattle.error.specs.declared.CountResult.{CountResult}
 use Rattle.error.specs.declared.CalendarError.{CalendarError}
 use Rattle.error.specs.declared.CalendarError.the-variants.{BufferTooSmall}
 use Rattle.calendar.specs.RangeCalls.{writtenResult, finalBuffer, MonthCheck, checkedMonth, tryMonth, tradingDaysInMonthResult, tradingDaysInMonthBuffer}
-use Rattle.calendar.proofs.MonthLaws.{written-ok, written-error, month-result}
+use Rattle.calendar.proofs.MonthLaws.{written-ok, written-error, month-result, NoMonthError, month-checked}
 use Rattle.sheet.specs.Sheet.{sheetText, monthSheet}
 use Rattle.sheet.specs.Call.{SheetResult, sheetOfMonth, sheetWritten, sheetBuffer}
 
@@ -29,9 +29,22 @@ module _ (bytes buffer : List ℕ) (n : ℕ) (e : n ≡ length bytes) where
 
 module _ (market year month : ℕ) where
   -- the sheet by what the check says
-  pub sheet-by-check : (k : MonthCheck) → checkedMonth market year month ≡ k → sheetOfMonth market year month ≡ tryMonth k SheetResult.Err (SheetResult.Ok (monthSheet market year month))
+  sheet-by-check : (k : MonthCheck) → checkedMonth market year month ≡ k → sheetOfMonth market year month ≡ tryMonth k SheetResult.Err (SheetResult.Ok (monthSheet market year month))
   unfolding sheetOfMonth
   sheet-by-check k e = ap (λ (r : MonthCheck). tryMonth r SheetResult.Err (SheetResult.Ok (monthSheet market year month))) e
+
+  -- A sheet comes with no error, and is that of the month.
+  pub sheet-asked : (bytes : List ℕ) → sheetOfMonth market year month ≡ SheetResult.Ok bytes
+      → NoMonthError market year month × (bytes ≡ monthSheet market year month)
+  sheet-asked bytes e = by (checkedMonth market year month) refl
+    where
+      by : (k : MonthCheck) → checkedMonth market year month ≡ k → NoMonthError market year month × (bytes ≡ monthSheet market year month)
+      by MonthCheck.Ok c =
+          let z : SheetResult.Ok bytes ≡ SheetResult.Ok (monthSheet market year month) = sym e ∙ sheet-by-check _ c in
+          (month-checked market year month c, cc)
+      by (MonthCheck.Err d) c =
+          let z : SheetResult.Err d ≡ SheetResult.Ok bytes = sym (sheet-by-check _ c) ∙ e in
+          absurd (let z : _≡_ {A = ℕ} 0 1 = cc in omega arith)
 
   module _ (room : List ℕ) (h : length room ≡ 31) where
     written : writtenResult (monthList market year month) room ≡ CountResult.Ok (length (monthList market year month))

@@ -29,7 +29,7 @@ use Rattle.request.specs.Request.{requestText, readRequest}
 use Rattle.sheet.specs.Sheet.{commaSeparated, sheetLines, monthSheet}
 use Rattle.sheet.specs.Call.{SheetResult, sheetOfMonth, sheetOfRequest, sheetWritten, sheetBuffer}
 use Rattle.request.proofs.Form.{reads-the-form}
-use Rattle.sheet.proofs.CallLaws.{sheet-by-check}
+use Rattle.sheet.proofs.CallLaws.{sheet-asked}
 use Rattle.sheet.proofs.SheetLength.{sheet-length}
 use Rattle.sheet_laws.specs.SheetLaws.{splitLines, firstLines, splitList, IsNumber, SheetLaws, AllSheetLaws}
 use Rattle.sheet_laws.proofs.Pieces.{Above, decimal-above, split-text, numbers-above, split-list}
@@ -62,13 +62,13 @@ written-bytes bytes buffer n = by (ltb (length buffer) (length bytes))
 -- The call gave no error, and so what it wrote is the sheet.
 sheet-checked : (market year month n : ℕ) (buffer : List ℕ) → sheetWritten (sheetOfMonth market year month) buffer ≡ CountResult.Ok n
     → NoMonthError market year month × (sheetOfMonth market year month ≡ SheetResult.Ok (monthSheet market year month))
-sheet-checked market year month n buffer h = by (checkedMonth market year month) refl
+sheet-checked market year month n buffer h = by (sheetOfMonth market year month) refl
   where
-    by : (k : MonthCheck) → checkedMonth market year month ≡ k
+    by : (r : SheetResult) → sheetOfMonth market year month ≡ r
         → NoMonthError market year month × (sheetOfMonth market year month ≡ SheetResult.Ok (monthSheet market year month))
-    by MonthCheck.Ok c = (month-checked market year month c, sheet-by-check market year month _ c)
-    by (MonthCheck.Err e) c =
-        let z : CountResult.Err e ≡ CountResult.Ok n = ap (λ (r : SheetResult). sheetWritten r buffer) (sym (sheet-by-check market year month _ c)) ∙ h in
+    by (SheetResult.Ok bytes) e = let a = sheet-asked market year month bytes e in (a .0, e ∙ ap SheetResult.Ok (a .1))
+    by (SheetResult.Err d) e =
+        let z : CountResult.Err d ≡ CountResult.Ok n = ap (λ (r : SheetResult). sheetWritten r buffer) (sym e) ∙ h in
         absurd (let z : _≡_ {A = ℕ} 0 1 = cc in omega arith)
 
 -- ---- the sheet of a month
