@@ -44,14 +44,14 @@ first-is-date year month s m =
 
 -- The check by what the tests of errors 8, 1 and 2 say.
 module _ (market year month : ℕ) where
-  abbrev pub by-tests : Bool → Bool → Bool → MonthCheck
+  abbrev by-tests : Bool → Bool → Bool → MonthCheck
   by-tests unknown supported isMonth =
       cond unknown (MonthCheck.Err UnknownMarket)
       (cond (not supported) (MonthCheck.Err (DateOutOfRange (monthErrorDate year month)))
       (cond (not isMonth) (MonthCheck.Err InvalidDateCalculation)
       MonthCheck.Ok))
 
-  pub checked-month : (u s m : Bool) → ltb 4 market ≡ u → isSupported year ≡ s → (leb 1 month && leb month 12) ≡ m
+  checked-month : (u s m : Bool) → ltb 4 market ≡ u → isSupported year ≡ s → (leb 1 month && leb month 12) ≡ m
       → checkedMonth market year month ≡ by-tests u s m
   unfolding checkedMonth
   checked-month u s m p q r = λ j. by-tests (p j) (q j) (r j)

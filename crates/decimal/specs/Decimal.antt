@@ -6,7 +6,7 @@ use lib.Dec.{ltb, leb}
 
 -- ---- written
 
--- n in at most as many digits as the first number says
+-- the last digits of n, at most as many as the first number says
 unfoldable pub decimalIn : ℕ → ℕ → List ℕ
 decimalIn zero n = []
 decimalIn (suc most) n =

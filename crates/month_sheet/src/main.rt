@@ -12,6 +12,6 @@ fn main() {
     let mut buffer = [0; INPUT_LENGTH];
     let n = input::read(STDIN_FILENO, &mut buffer);
     let mut out = [0; OUTPUT_LENGTH];
-    let count = output::print_input(&buffer, n, &mut out);
+    let count = output::of_input(&buffer, n, &mut out);
     io::write_all(STDOUT_FILENO, &out[..count]);
 }

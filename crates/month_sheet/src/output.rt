@@ -10,12 +10,12 @@ use crate::input::INPUT_LENGTH;
 use sheet::write_line;
 use trading_calendar::sheets::tc_month_sheet;
 
-// No sheet has more bytes.
+// So many bytes are proved to be enough for every sheet; the longest has 104.
 pub const OUTPUT_LENGTH: usize = 136;
 
 // [sheet-program]: writes what is printed for the text to the start of the buffer, and answers how many bytes that is. With an error the
 // call has written nothing.
-fn print(text: &[u8], out: &mut [u8; OUTPUT_LENGTH]) -> usize
+fn of_text(text: &[u8], out: &mut [u8; OUTPUT_LENGTH]) -> usize
     ensures { λ r. ⌜ (r ≡ length (printed (now (text .entry))))
         × (now (out .exit) ≡ overwrite (printed (now (text .entry))) (now (out .entry))) ⌝ }
 {
@@ -27,12 +27,12 @@ fn print(text: &[u8], out: &mut [u8; OUTPUT_LENGTH]) -> usize
 }
 
 // The same for an input of which the first n bytes of the buffer were read. They are printed as the whole input would be.
-pub fn print_input(buffer: &[u8; INPUT_LENGTH], n: usize, out: &mut [u8; OUTPUT_LENGTH]) -> usize
+pub fn of_input(buffer: &[u8; INPUT_LENGTH], n: usize, out: &mut [u8; OUTPUT_LENGTH]) -> usize
     requires { ⌜ n ≤ length (now buffer) ⌝ }
     ensures { λ r. ⌜ ((input : List ℕ) → ReadOf input (now (buffer .entry)) n
         → (r ≡ length (printed input)) × (now (out .exit) ≡ overwrite (printed input) (now (out .entry)))) ⌝ }
     ensures { λ r. ⌜ Counts r (now (out .exit)) ⌝ }
 {
     let text: &[u8] = buffer;
-    print(&text[..n], out)
+    of_text(&text[..n], out)
 }

@@ -121,13 +121,3 @@ reads-the-form = record {
   malformed = λ text none. no-month text (readRequest text) refl none;
   too-long = λ text h. no-month text (readRequest text) refl (λ m y o f. let most = at-most-48 text m y o f in omega arith);
 }
-
--- Each of the three numbers has at most nine digits.
-pub values-bound : (text : List ℕ) (market year month : ℕ) → readRequest text ≡ Request.Month market year month
-    → (market < 10 ^ 9) × (year < 10 ^ 9) × (month < 10 ^ 9)
-values-bound text market year month h =
-    let f = only text market year month h in
-    (bound market (f .market-digits) (f .market-is), bound year (f .year-digits) (f .year-is), bound month (f .month-digits) (f .month-is))
-  where
-    bound : (n : ℕ) (digits : List ℕ) → DigitString digits × (n ≡ valueOf digits) → n < 10 ^ 9
-    bound n digits d = omega (arith, value-bound digits (d .0 .0) (d .0 .2))

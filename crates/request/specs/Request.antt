@@ -54,10 +54,12 @@ unfoldable pub atEnd : List ℕ → Request → Request
 atEnd [] request = request
 atEnd (b ∷ text) request = Request.Malformed
 
+-- the third line, and the end of the text
 unfoldable pub readMonth : ℕ → ℕ → List ℕ → Request
 readMonth market year text =
     onLine (readLine (ascii "month=") text) text (λ month rest. atEnd rest (Request.Month market year month))
 
+-- the second line, and then the third
 unfoldable pub readYear : ℕ → List ℕ → Request
 readYear market text = onLine (readLine (ascii "year=") text) text (λ year rest. readMonth market year rest)
 

@@ -1,12 +1,12 @@
-// The reader of the text [sheet-input]. Labels in brackets are those of docs/SCOPE.md.
+// The reader of the text that asks for a month sheet [sheet-input]. Labels in brackets are those of docs/SCOPE.md.
 ghost use mathlib.Core.Path.{_≡_};
 ghost use lib.Dec.{eqb};
 ghost use lib.ListN.{getD};
 ghost use Rattle.request.specs.Request.{startsWith, readNumber, readLine, readMonth, readYear, readRequest};
 
-// The number of a line, and how many bytes the line has with its line feed.
+// A number, and how many bytes were read for it, up to its line feed.
 enum Line {
-    Number { value: u32, length: usize },
+    Number { value: u32, size: usize },
     None,
 }
 
@@ -16,6 +16,7 @@ pub enum Request {
     Malformed,
 }
 
+// Whether the text starts with the name.
 fn starts_with(name: &[u8], text: &[u8]) -> bool
     ensures { λ r. ⌜ r ≡ startsWith (now (name .entry)) (now (text .entry)) ⌝ }
 {
@@ -59,7 +60,7 @@ fn read_number(text: &[u8]) -> Line
     }
     Line::Number {
         value: decimal::value(&text[..n]),
-        length: n + 1,
+        size: n + 1,
     }
 }
 
@@ -72,9 +73,9 @@ fn read_line(name: &[u8], text: &[u8]) -> Line
     }
     let n = name.len();
     match read_number(&text[n..]) {
-        Line::Number { value, length } => Line::Number {
+        Line::Number { value, size } => Line::Number {
             value,
-            length: n + length,
+            size: n + size,
         },
         Line::None => Line::None,
     }
@@ -84,14 +85,10 @@ fn read_line(name: &[u8], text: &[u8]) -> Line
 fn read_month(market: u32, year: u32, text: &[u8]) -> Request
     ensures { λ r. ⌜ r ≡ readMonth market year (now (text .entry)) ⌝ }
 {
-    let Line::Number {
-        value: month,
-        length,
-    } = read_line(b"month=", text)
-    else {
+    let Line::Number { value: month, size } = read_line(b"month=", text) else {
         return Request::Malformed;
     };
-    if length == text.len() {
+    if size == text.len() {
         Request::Month {
             market,
             year,
@@ -102,18 +99,14 @@ fn read_month(market: u32, year: u32, text: &[u8]) -> Request
     }
 }
 
-// Its line, and the rest of the text to the reader of the next.
+// The second line; the rest of the text goes to the reader of the third.
 fn read_year(market: u32, text: &[u8]) -> Request
     ensures { λ r. ⌜ r ≡ readYear market (now (text .entry)) ⌝ }
 {
-    let Line::Number {
-        value: year,
-        length,
-    } = read_line(b"year=", text)
-    else {
+    let Line::Number { value: year, size } = read_line(b"year=", text) else {
         return Request::Malformed;
     };
-    read_month(market, year, &text[length..])
+    read_month(market, year, &text[size..])
 }
 
 // [sheet-input]: the whole text, line by line. Each line's reader gives the rest of the text, from the byte after the line feed, to the
@@ -123,10 +116,10 @@ pub fn read_request(text: &[u8]) -> Request
 {
     let Line::Number {
         value: market,
-        length,
+        size,
     } = read_line(b"market=", text)
     else {
         return Request::Malformed;
     };
-    read_year(market, &text[length..])
+    read_year(market, &text[size..])
 }

@@ -16,7 +16,7 @@ use Rattle.sheet.specs.Sheet.{commaSeparated, sheetLines, sheetLine, she
 -- ---- lines
 
 -- the text from line k on is that line, and the text from the next one on
-pub text-from : (lines : List (List ℕ)) (k : ℕ) → k < length lines → textOf (drop k lines) ≡ getD lines k [] ++ ascii "\n" ++ textOf (drop (k + 1) lines)
+text-from : (lines : List (List ℕ)) (k : ℕ) → k < length lines → textOf (drop k lines) ≡ getD lines k [] ++ ascii "\n" ++ textOf (drop (k + 1) lines)
 unfolding textOf
 text-from lines k h = ap textOf (drop-cons lines k [] h) ∙ ap (λ (n : ℕ). getD lines k [] ++ ascii "\n" ++ textOf (drop n lines)) (sym (add-one k))
 
@@ -61,15 +61,6 @@ sheet-from k market year month days h = text-from (sheetLines market year month 
 pub sheet-last : (k market year month : ℕ) (days : List ℕ) → k ≡ 4 → sheetFrom k market year month days ≡ ascii "days=" ++ numbersLine days
 unfolding sheetLines textOf
 sheet-last k market year month days e = ap (λ (i : ℕ). sheetFrom i market year month days) e ∙ append-nil (ascii "days=" ++ numbersLine days)
-
--- line k where k is known to be j
-module _ (k j market year month : ℕ) (days out : List ℕ) (e : k ≡ j) where
-  pub line-fits : length (sheetLine k market year month days) ≤ length out → length (sheetLine j market year month days) ≤ length out
-  line-fits h = rw e at h
-
-  pub line-written : (n : ℕ) (l : List ℕ) → (n ≡ length (sheetLine j market year month days)) × (l ≡ overwrite (sheetLine j market year month days) out)
-      → (n ≡ length (sheetLine k market year month days)) × (l ≡ overwrite (sheetLine k market year month days) out)
-  line-written n l w = rw e w
 
 -- its names have 29 bytes, and the first four line feeds come to them
 pub sheet-lengths : (market year month : ℕ) (days : List ℕ) → length (sheetText market year month days)

@@ -23,6 +23,7 @@ abbrev pub sheetOfRequest : Request → SheetResult
 sheetOfRequest (Request.Month market year month) = sheetOfMonth market year month
 sheetOfRequest Request.Malformed = Err MalformedText
 
+-- the same from the text
 abbrev pub sheetOf : List ℕ → SheetResult
 sheetOf text = sheetOfRequest (readRequest text)
 
@@ -40,5 +41,6 @@ sheetBuffer (Err e) buffer = buffer
 abbrev pub monthSheetResult : List ℕ → List ℕ → CountResult
 monthSheetResult text = sheetWritten (sheetOf text)
 
+-- and what the buffer holds at the end
 abbrev pub monthSheetBuffer : List ℕ → List ℕ → List ℕ
 monthSheetBuffer text = sheetBuffer (sheetOf text)

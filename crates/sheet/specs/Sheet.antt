@@ -22,6 +22,7 @@ sheetLines market year month days =
     ∷ (ascii "days=" ++ commaSeparated days)
     ∷ []
 
+-- the lines as one text
 abbrev pub sheetText : ℕ → ℕ → ℕ → List ℕ → List ℕ
 sheetText market year month days = textOf (sheetLines market year month days)
 

@@ -1,4 +1,4 @@
-// How many bytes the sheet has, which is known before one is written. Labels in brackets are those of docs/SCOPE.md.
+// How many bytes the sheet has, which is known before one is written.
 ghost use mathlib.Core.Path.{_≡_};
 ghost use mathlib.Core.List.{_++_};
 ghost use Prim.Native.Nat.{_+_, _*_, _≤_};
@@ -7,8 +7,9 @@ ghost use Rattle.request.specs.Text.{ascii};
 ghost use Rattle.sheet.specs.Sheet.{commaSeparated, sheetText};
 
 // The names of the five lines, and the line feeds of the first four.
-const NAMES: usize = 33;
+const NAMES_AND_LINE_FEEDS: usize = 33;
 
+// The byte as a number for `decimal`.
 pub fn wide(byte: u8) -> u32
     ensures { λ r. ⌜ r ≡ byte ⌝ }
 {
@@ -30,11 +31,12 @@ fn numbers_length(numbers: &[u8]) -> usize
     n + numbers_length(&numbers[1..])
 }
 
+// All five lines; a month has at most 31 days.
 pub fn sheet_length(market: u32, year: u32, month: u32, days: &[u8]) -> usize
     requires { ⌜ length (now days) ≤ 31 ⌝ }
     ensures { λ r. ⌜ (r ≡ length (sheetText market year month (now (days .entry)))) × (r ≤ 415) ⌝ }
 {
     let first = decimal::digits(market) + decimal::digits(year) + decimal::digits(month);
     let count = decimal::digits(days.len() as u32);
-    NAMES + first + count + numbers_length(days)
+    NAMES_AND_LINE_FEEDS + first + count + numbers_length(days)
 }

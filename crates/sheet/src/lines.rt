@@ -48,6 +48,7 @@ fn write_numbers(numbers: &[u8], out: &mut [u8]) -> usize
     n + write_numbers(&numbers[1..], &mut out[n..])
 }
 
+// The last line.
 fn write_days(days: &[u8], out: &mut [u8]) -> usize
     requires { ⌜ length (ascii "days=" ++ (commaSeparated (now days) ++ ascii "\n")) ≤ length (now out) ⌝ }
     ensures { λ r. ⌜ (r ≡ length (ascii "days=" ++ (commaSeparated (now (days .entry)) ++ ascii "\n")))

@@ -29,7 +29,7 @@ sub : tie.Need-sub-write-number
 sub c = let s = c .before .before .before .before .before .before in rest-starts (name s) (more s) _ (out s) refl (s .pre) _ _ (c .before .before .write .ensures)
 
 part-start : tie.Need-part-write-number-start
-part-start c = let s = c .before .before .before .before .before .before in rest-starts (name s) (more s) _ (out s) refl (s .pre) _ _ (c .before .before .write .ensures)
+part-start c = sub c
 
 write-number-requires : tie.Need-write-number-requires
 write-number-requires c κs =

@@ -1,4 +1,4 @@
--- `month_sheet::output::print` meets its contract: the sheet as the call writes it, or the line with the number of its error.
+-- `month_sheet::output::of_text` meets its contract: the sheet as the call writes it, or the line with the number of its error.
 use Prim.Native.Nat.{ℕ, _≤_}
 use mathlib.Core.List.{List}
 use lib.ListN.{length}
@@ -6,8 +6,8 @@ use native.Mathlib.Omega.{arith}
 use borrow.Author.Needs.{needs}
 use denote.Ref.{now}
 use Rattle.month_sheet.proofs.PrintLaws.{sheet-printed, line-fits, line-printed}
-use Rattle.month_sheet.proofs.output.print.Statement.{statement}
-use Rattle.month_sheet.proofs.output.print.Tie as tie
+use Rattle.month_sheet.proofs.output.of_text.Statement.{statement}
+use Rattle.month_sheet.proofs.output.of_text.Tie as tie
 
 -- the text and the buffer that the call was given
 module _ (s : tie.After-tc-month-sheet) where
@@ -36,5 +36,5 @@ returns-2 c =
     let s = c .before .before .before .before .before in
     line-printed (text s) (buffer s) (room s) _ _ (s .tc-month-sheet .ensures) (omega arith) _ _ (c .write-line .ensures)
 
-pub print-spec : {M : Type 1} → statement M
-print-spec = tie.close (tie.spec (search needs) (search needs) returns (search needs) write-line-requires returns-2)
+pub of-text-spec : {M : Type 1} → statement M
+of-text-spec = tie.close (tie.spec (search needs) (search needs) returns (search needs) write-line-requires returns-2)
