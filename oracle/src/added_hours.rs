@@ -6,6 +6,7 @@ use crate::faults::{self, time_places, Part, Wrong};
 use crate::numbers::{every_market, parts, with_each, without_repeats, Numbers, OnNumbers};
 use crate::row_inputs_hours::WHOLE;
 use crate::tally::Tally;
+use std::fmt::Debug;
 
 const WRONG: Wrong = Wrong {
     markets: NO_MARKETS,
@@ -52,29 +53,45 @@ fn absent_parts(call: HoursCall) -> bool {
     })
 }
 
-/// Compares the library with the answer that is due, and shows what the original does.
 pub fn check(
     call: impl OnNumbers,
     title: String,
     inputs: &[Numbers],
     due: impl Fn(&[u32]) -> Numbers,
 ) -> bool {
+    check_answers(
+        title,
+        inputs,
+        |input| call.library(input),
+        |input| call.original(input),
+        |input| due(input),
+    )
+}
+
+/// Compares the library with the answer that is due, and shows what the original does.
+pub fn check_answers<I: Debug, A: PartialEq + Debug>(
+    title: String,
+    inputs: &[I],
+    library: impl Fn(&I) -> A,
+    original: impl Fn(&I) -> Option<A>,
+    due: impl Fn(&I) -> A,
+) -> bool {
     let mut tally = Tally::new(title);
     for input in inputs {
-        tally.compare(input, call.library(input), due(input));
+        tally.compare(input, library(input), due(input));
     }
     let right = tally.close(inputs.len() as u64);
-    show_original(call, inputs);
+    show_original(inputs, original);
     right
 }
 
 /// At the first input; if it cannot be asked there, also at the first where it can.
-fn show_original(call: impl OnNumbers, inputs: &[Numbers]) {
-    let words = |answer: Option<Numbers>| match answer {
+fn show_original<I: Debug, A: Debug>(inputs: &[I], original: impl Fn(&I) -> Option<A>) {
+    let words = |answer: Option<A>| match answer {
         Some(answer) => format!("{answer:?}"),
         None => "cannot be asked".to_string(),
     };
-    let mut answers = inputs.iter().map(|input| (input, call.original(input)));
+    let mut answers = inputs.iter().map(|input| (input, original(input)));
     let Some((input, first)) = answers.next() else {
         return;
     };

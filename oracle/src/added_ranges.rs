@@ -10,7 +10,7 @@ use std::slice;
 
 const ROOMS: &[u32] = &[0, 1, 22, 31];
 /// Years in which a month has error 1, and dates with which a count may have it.
-const OTHER_YEARS: &[u32] = &[1, 1970, 2019, 2031, 9999];
+pub const OTHER_YEARS: &[u32] = &[1, 1970, 2019, 2031, 9999];
 const OTHER_DATES: &[[u32; 3]] = &[[1, 1, 1], [2019, 12, 31], [2031, 1, 1], [9999, 12, 31]];
 const SOME_DATES: &[[u32; 3]] = &[[2020, 1, 1], [2025, 11, 28], [2030, 12, 31]];
 

@@ -4,7 +4,7 @@ use crate::library::*;
 use crate::original::{calendars, days_of, MARKETS};
 use crate::original_hours::{self, time};
 use crate::times::{mean, Days, Times, ROUNDS};
-use crate::{bench_parts, bench_ranges, ANSWERED_YEARS};
+use crate::{bench_parts, bench_ranges, bench_sheets, ANSWERED_YEARS};
 use chrono::NaiveDate;
 use std::hint::black_box;
 use std::slice;
@@ -44,6 +44,7 @@ pub fn run() {
     );
     is_open_at(&days);
     is_open(&days);
+    bench_sheets::run();
 }
 
 fn is_trading_day(title: &str, days: &Days) {

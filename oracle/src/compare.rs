@@ -4,8 +4,8 @@ use crate::library::*;
 use crate::original::{self, days_of, of_result};
 use crate::tally::Tally;
 use crate::{
-    added, added_hours, added_ranges, compare_hours, compare_neighbours, compare_ranges,
-    ANSWERED_YEARS, LAST_YEAR, YEARS,
+    added, added_hours, added_ranges, added_sheets, compare_hours, compare_neighbours,
+    compare_ranges, compare_sheets, ANSWERED_YEARS, LAST_YEAR, YEARS,
 };
 use chrono::NaiveDate;
 use trading_calendar::{Result, TradingCalendar};
@@ -36,8 +36,9 @@ pub fn run() -> bool {
         compare_neighbours::run(),
         compare_ranges::run(),
         compare_hours::run(),
+        compare_sheets::run(),
     ];
-    let added = added::run() & added_ranges::run() & added_hours::run();
+    let added = added::run() & added_ranges::run() & added_hours::run() & added_sheets::run();
     both.into_iter().all(|right| right) && added
 }
 

@@ -69,7 +69,7 @@ fn no_months() -> bool {
     tally.close(MARKETS * (YEARS.count() * NO_MONTHS.len()) as u64)
 }
 
-fn all_months(months: &[u32]) -> impl Iterator<Item = (u32, u32, u32)> + '_ {
+pub fn all_months(months: &[u32]) -> impl Iterator<Item = (u32, u32, u32)> + '_ {
     (0..5).flat_map(move |market| {
         YEARS.flat_map(move |year| months.iter().map(move |&month| (market, year, month)))
     })

@@ -100,6 +100,12 @@ pub fn trading_days_in_month(market: u32, year: u32, month: u32, out: &mut [u8])
     unsafe { tc_trading_days_in_month(market, year, month, out.as_mut_ptr(), out.len()) }
 }
 
+/// Two slices of which one is changed do not overlap, as [host-calls] asks.
+#[inline]
+pub fn month_sheet(text: &[u8], out: &mut [u8]) -> CountResult {
+    unsafe { tc_month_sheet(text.as_ptr(), text.len(), out.as_mut_ptr(), out.len()) }
+}
+
 // Those without a pointer are safe, since every call takes any numbers at all.
 unsafe extern "C" {
     pub safe fn tc_nth_weekday_of_month(
@@ -139,6 +145,12 @@ unsafe extern "C" {
         market: u32,
         year: u32,
         month: u32,
+        out: *mut u8,
+        out_length: usize,
+    ) -> CountResult;
+    fn tc_month_sheet(
+        text: *const u8,
+        text_length: usize,
         out: *mut u8,
         out_length: usize,
     ) -> CountResult;

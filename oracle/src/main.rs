@@ -3,34 +3,42 @@
 mod added;
 mod added_hours;
 mod added_ranges;
+mod added_sheets;
 mod bench;
 mod bench_parts;
 mod bench_ranges;
+mod bench_sheets;
 mod call;
 mod call_hours;
 mod call_ranges;
+mod call_sheets;
 mod compare;
 mod compare_hours;
 mod compare_neighbours;
 mod compare_ranges;
 mod compare_records;
+mod compare_sheets;
 mod faults;
 mod library;
+mod malformed;
 mod numbers;
 mod original;
 mod original_hours;
 mod original_ranges;
+mod original_sheets;
 mod random;
 mod row_inputs;
 mod row_inputs_hours;
 mod row_inputs_neighbours;
 mod row_inputs_ranges;
+mod row_inputs_sheets;
 mod row_sections_hours;
 mod row_writer;
 mod rows;
 mod rows_hours;
 mod rows_neighbours;
 mod rows_ranges;
+mod rows_sheets;
 mod tally;
 mod times;
 
@@ -52,13 +60,14 @@ fn main() -> ExitCode {
         ["rows", "hours"] => written(rows_hours::run()),
         ["rows", "neighbours"] => written(rows_neighbours::run()),
         ["rows", "ranges"] => written(rows_ranges::run()),
+        ["rows", "sheets"] => written(rows_sheets::run()),
         ["bench"] => {
             bench::run();
             true
         }
         _ => {
             eprintln!(
-                "usage: oracle compare|overflows|bench|rows holidays|rows hours|rows neighbours|rows ranges"
+                "usage: oracle compare|overflows|bench|rows holidays|rows hours|rows neighbours|rows ranges|rows sheets"
             );
             false
         }

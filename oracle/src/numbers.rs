@@ -123,3 +123,8 @@ pub fn parse(text: &str) -> Numbers {
         .map(|number| number.parse().expect("a number"))
         .collect()
 }
+
+/// Each after a space.
+pub fn words(numbers: &[u32]) -> String {
+    numbers.iter().map(|number| format!(" {number}")).collect()
+}

@@ -46,7 +46,7 @@ fn of_length(count: usize) -> CountResult {
     }
 }
 
-fn of_error(error: CalendarError) -> CountResult {
+pub fn of_error(error: CalendarError) -> CountResult {
     match error {
         CalendarError::DateOutOfRange(date) => CountResult {
             error: 1,

@@ -1,6 +1,6 @@
 //! Rows of stored answers, to standard output.
 
-use crate::numbers::{parse, Numbers, OnNumbers};
+use crate::numbers::{parse, words, Numbers, OnNumbers};
 use std::collections::BTreeSet;
 use std::io::{self, BufWriter, StdoutLock, Write};
 
@@ -50,9 +50,11 @@ impl RowWriter {
     }
 
     pub fn row(&mut self, name: &str, input: &[u32], answer: &[u32]) -> io::Result<()> {
-        let words =
-            |numbers: &[u32]| -> String { numbers.iter().map(|n| format!(" {n}")).collect() };
-        writeln!(self.0, "{name}{} ={}", words(input), words(answer))
+        self.line(&format!("{name}{} ={}", words(input), words(answer)))
+    }
+
+    pub fn line(&mut self, text: &str) -> io::Result<()> {
+        writeln!(self.0, "{text}")
     }
 
     /// Each input once.

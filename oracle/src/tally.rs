@@ -22,15 +22,20 @@ impl Tally {
 
     /// The answer of the library beside the one that is due.
     #[inline]
-    pub fn compare<T: PartialEq + Debug>(&mut self, input: &[u32], library: T, due: T) {
+    pub fn compare<T: PartialEq + Debug>(
+        &mut self,
+        input: &(impl Debug + ?Sized),
+        library: T,
+        due: T,
+    ) {
         self.compared += 1;
         if library != due {
-            self.show(input, &library, &due);
+            self.show(&input, &library, &due);
         }
     }
 
     #[cold]
-    fn show(&mut self, input: &[u32], library: &dyn Debug, due: &dyn Debug) {
+    fn show(&mut self, input: &dyn Debug, library: &dyn Debug, due: &dyn Debug) {
         self.differ += 1;
         if self.differ <= SHOWN {
             println!("{} at {input:?}:", self.name);
