@@ -11,6 +11,7 @@ use crate::name::Name;
 use crate::numbers::Numbers;
 use crate::numbers::push_date;
 use crate::ranges;
+use crate::sheets;
 use answers::BoolAnswer;
 use answers::OptionalDate;
 use answers::neighbours::TradingDayAnswer;
@@ -78,8 +79,10 @@ pub const TRADING_DAYS_IN_MONTH: usize = 21;
 
 pub const COUNT_TRADING_DAYS: usize = 22;
 
+pub const MONTH_SHEET: usize = 23;
+
 // How many kinds there are. Where a kind is asked for, it says that there is none.
-pub const KINDS: usize = 23;
+pub const KINDS: usize = 24;
 
 pub fn name(kind: usize) -> Name {
     match kind {
@@ -106,6 +109,7 @@ pub fn name(kind: usize) -> Name {
         PREVIOUS_TRADING_DAY => Name::of(b"previous_trading_day"),
         TRADING_DAYS_IN_MONTH => Name::of(b"trading_days_in_month"),
         COUNT_TRADING_DAYS => Name::of(b"count_trading_days"),
+        MONTH_SHEET => Name::of(b"month_sheet"),
         _ => Name::new(),
     }
 }
@@ -122,7 +126,7 @@ pub fn kind_of(text: Name) -> usize {
     KINDS
 }
 
-// How many inputs the kind takes.
+// How many inputs the kind takes, if it takes no text.
 fn input_count(kind: usize) -> usize {
     match kind {
         WITH_EARLY_CLOSE | IS_OPEN_AT => 14,
@@ -151,6 +155,9 @@ pub fn is_list(kind: usize) -> bool {
 // list that is stored is empty.
 pub fn answer(kind: usize, inputs: Numbers) -> Numbers {
     let v = inputs.values;
+    if kind == MONTH_SHEET {
+        return sheets::month_sheet(inputs);
+    }
     if inputs.count != input_count(kind) {
         return Numbers::new();
     }
@@ -189,7 +196,7 @@ fn nth_weekday_of_month(year: u32, month: u32, weekday: u32, nth: u32) -> Number
     optional_date(tc_nth_weekday_of_month(year, month, weekday, nth as u8))
 }
 
-// The fields of a C struct, in order; those about hours, months and ranges are in modules of their own.
+// The fields of a C struct, in order; those about hours, months, ranges and sheets are in modules of their own.
 fn optional_date(answer: OptionalDate) -> Numbers {
     let date = answer.date;
     push_date(Numbers::new().push(answer.found), date)

@@ -8,6 +8,7 @@ mod ranges;
 mod reader;
 mod report;
 mod row;
+mod sheets;
 mod tally;
 
 use reader::Reader;
@@ -37,5 +38,6 @@ fn main() {
     replay(b"hours.txt");
     replay(b"neighbours.txt");
     replay(b"ranges.txt");
+    replay(b"sheets.txt");
     replay(b"malformed.txt");
 }

@@ -6,7 +6,7 @@ ghost use Rattle.replay.specs.Decimal.{appended};
 use gregorian::Date;
 
 // How many numbers a list holds at most. A row with more on one side of its `=` is malformed.
-pub const CAPACITY: usize = 32;
+pub const CAPACITY: usize = 128;
 
 // A list of numbers: the first count values, and zeros after them.
 pub struct Numbers {

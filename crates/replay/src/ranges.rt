@@ -6,13 +6,13 @@ use answers::counts::CountAnswer;
 use trading_calendar::ranges::tc_count_trading_days;
 use trading_calendar::ranges::tc_trading_days_in_month;
 
-// How many bytes a buffer has at most: with the fields of the struct a row then holds 32 numbers.
-const LARGEST_ROOM: usize = 27;
+// How many bytes a buffer has at most: with the fields of the struct they are as many numbers as a row holds.
+pub const LARGEST_ROOM: usize = 123;
 
 // What each byte of the buffer is before the call, so that a byte that was kept is seen.
 const UNTOUCHED: u8 = 255;
 
-fn count_answer(answer: CountAnswer) -> Numbers {
+pub fn count_answer(answer: CountAnswer) -> Numbers {
     let date = answer.date;
     push_date(Numbers::new().push(answer.error).push(answer.count), date)
 }
@@ -23,8 +23,8 @@ fn wide(byte: u8) -> u32 {
 }
 
 // The list with the first room bytes after it.
-fn push_bytes(list: Numbers, bytes: &[u8; LARGEST_ROOM], room: usize) -> Numbers
-    requires { ⌜ room ≤ 27 ⌝ }
+pub fn push_bytes(list: Numbers, bytes: &[u8; LARGEST_ROOM], room: usize) -> Numbers
+    requires { ⌜ room ≤ 123 ⌝ }
 {
     let mut longer = list;
     let mut i = 0;

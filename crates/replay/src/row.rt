@@ -1,4 +1,5 @@
-// A row of a data file, read a byte at a time: a name, inputs, `=` and answers, with a space between each two.
+// A row of a data file, read a byte at a time: a name, inputs, `=` and answers, with a space between each two. Inputs and answers
+// are numbers, and texts in quotes, of which each byte is a number.
 ghost use Prim.Native.Nat.{_<_};
 use crate::calls;
 use crate::name;
@@ -23,12 +24,23 @@ const COMMENT: u8 = 5;
 
 const MALFORMED: u8 = 6;
 
+// What the next byte of the inputs or of the answers follows: a space, a digit, a byte in a text, a backslash there, its last quote.
+const SPACE: u8 = 0;
+
+const DIGIT: u8 = 1;
+
+const TEXT: u8 = 2;
+
+const BACKSLASH: u8 = 3;
+
+const QUOTE: u8 = 4;
+
 // A line as far as it was read.
 pub struct Row {
     part: u8,
     name: Name,
-    // The number that is being read: whether it has a digit yet, and its value.
-    has_digit: bool,
+    after: u8,
+    // The number that is being read, as far as it was.
     value: u32,
     // The numbers before the `=`, once that was read.
     pub inputs: Numbers,
@@ -43,7 +55,7 @@ impl Row {
         Self {
             part: START,
             name,
-            has_digit: false,
+            after: SPACE,
             value: 0,
             inputs: none,
             numbers: none,
@@ -68,7 +80,7 @@ impl Row {
             NAME => self.push_name(byte),
             INPUTS => self.push_input(byte),
             EQUALS => self.push_after_equals(byte),
-            ANSWERS => self.push_number(byte),
+            ANSWERS => self.push_item(byte),
             _ => self,
         }
     }
@@ -76,7 +88,7 @@ impl Row {
     // The row after its line feed.
     pub fn finish(self) -> Self {
         if self.part == ANSWERS {
-            self.end_number()
+            self.end_item()
         } else {
             self.with_part(MALFORMED)
         }
@@ -120,9 +132,12 @@ impl Row {
 
     fn push_input(mut self, byte: u8) -> Self {
         if byte != b'=' {
-            return self.push_number(byte);
+            return self.push_item(byte);
         }
-        if self.has_digit {
+        if self.after == TEXT {
+            return self.push_item(byte);
+        }
+        if self.after != SPACE {
             return self.with_part(MALFORMED);
         }
         let inputs = self.numbers;
@@ -140,9 +155,27 @@ impl Row {
         }
     }
 
-    fn push_number(self, byte: u8) -> Self {
+    fn with_after(mut self, after: u8) -> Self {
+        self.after = after;
+        self
+    }
+
+    // A byte of a number or of a text, or the space after it.
+    fn push_item(self, byte: u8) -> Self {
+        let after = self.after;
+        match after {
+            TEXT => self.push_text(byte),
+            BACKSLASH => self.push_escaped(byte),
+            _ => self.push_outside(byte),
+        }
+    }
+
+    fn push_outside(self, byte: u8) -> Self {
         if byte == b' ' {
-            return self.end_number();
+            return self.end_item();
+        }
+        if byte == b'"' {
+            return self.open_text();
         }
         if byte < b'0' {
             return self.with_part(MALFORMED);
@@ -153,30 +186,67 @@ impl Row {
         self.push_digit(byte - b'0')
     }
 
+    fn open_text(self) -> Self {
+        if self.after == SPACE {
+            self.with_after(TEXT)
+        } else {
+            self.with_part(MALFORMED)
+        }
+    }
+
+    fn push_text(self, byte: u8) -> Self {
+        match byte {
+            b'"' => self.with_after(QUOTE),
+            b'\\' => self.with_after(BACKSLASH),
+            _ => self.push_value(byte as u32),
+        }
+    }
+
+    // `\n` is a line feed, and there is no other such pair: other bytes are written as numbers.
+    fn push_escaped(self, byte: u8) -> Self {
+        if byte == b'n' {
+            self.with_after(TEXT).push_value(10)
+        } else {
+            self.with_part(MALFORMED)
+        }
+    }
+
     fn push_digit(mut self, digit: u8) -> Self
         requires { ⌜ digit < 10 ⌝ }
     {
+        if self.after == QUOTE {
+            return self.with_part(MALFORMED);
+        }
         let appended = append_digit(self.value, digit);
         let Appended::Value(value) = appended else {
             return self.with_part(MALFORMED);
         };
-        self.has_digit = true;
+        self.after = DIGIT;
         self.value = value;
         self
     }
 
-    fn end_number(mut self) -> Self {
-        if !self.has_digit {
-            return self.with_part(MALFORMED);
+    // The row after the last byte of a number or of a text.
+    fn end_item(mut self) -> Self {
+        let after = self.after;
+        let value = self.value;
+        self.after = SPACE;
+        self.value = 0;
+        match after {
+            DIGIT => self.push_value(value),
+            QUOTE => self,
+            _ => self.with_part(MALFORMED),
         }
+    }
+
+    // The row with one number more.
+    fn push_value(mut self, value: u32) -> Self {
         let numbers = self.numbers;
         if numbers.count >= numbers::CAPACITY {
             return self.with_part(MALFORMED);
         }
-        let numbers = numbers.push(self.value);
+        let numbers = numbers.push(value);
         self.numbers = numbers;
-        self.has_digit = false;
-        self.value = 0;
         self
     }
 }

@@ -18,7 +18,7 @@ differ : {a b : Numbers} → (a ≡ b → ⊥) → (false ≡ true → a ≡ b) 
 differ d = (λ e. cc, λ e. absurd (d e))
 
 -- two lists as long as the capacity are equal where they agree at each index
-agree : (a b : Numbers) (i : ℕ) → a .count ≡ b .count → length (a .values) ≡ 32 → length (b .values) ≡ 32 → 32 ≤ i
+agree : (a b : Numbers) (i : ℕ) → a .count ≡ b .count → length (a .values) ≡ 128 → length (b .values) ≡ 128 → 128 ≤ i
     → ((k : ℕ) → k < i → getD (a .values) k 0 ≡ getD (b .values) k 0) → a ≡ b
 agree a b i n la lb l h =
     let v : a .values ≡ b .values = ext-getD 0 (a .values) (b .values) (cc) (λ k u. h k (omega arith)) in
@@ -28,7 +28,7 @@ abbrev Inv-loop : tie.InvT-loop
 Inv-loop x y i₀ i = (k : ℕ) → k < i → getD x k 0 ≡ getD y k 0
 
 abbrev μ-loop : tie.MeasureT-loop
-μ-loop x y i₀ i = 32 - i
+μ-loop x y i₀ i = 128 - i
 
 returns : tie.Need-returns Inv-loop μ-loop
 returns c = differ (λ e. c .if1 .taken (ap (λ (n : Numbers). n .count) e))
@@ -47,8 +47,8 @@ returns-3 c =
     let a = c .before .before .before .before .before .before .before .args .a in
     let b = c .before .before .before .before .before .before .before .args .b in
     let i = c .before .loop .i in
-    let la : length (a .values) ≡ 32 = search needs in
-    let lb : length (b .values) ≡ 32 = search needs in
+    let la : length (a .values) ≡ 128 = search needs in
+    let lb : length (b .values) ≡ 128 = search needs in
     (λ _. agree a b i (search needs) la lb (omega arith) (c .before .loop .inv), λ _. refl)
 
 pub same-spec : {M : Type 1} → statement M
