@@ -62,6 +62,9 @@ module _ (market year month : ℕ) where
     pub supported : isSupported year ≡ true
     pub is-month : (leb 1 month && leb month 12) ≡ true
 
+  pub no-month-error : NoMonthError → checkedMonth market year month ≡ MonthCheck.Ok
+  no-month-error k = checked-month false true true (le-ltb 4 market (k .known)) (k .supported) (k .is-month)
+
   pub month-checked : checkedMonth market year month ≡ MonthCheck.Ok → NoMonthError
   month-checked c = by (ltb 4 market) (isSupported year) (leb 1 month && leb month 12) refl refl refl
     where

@@ -29,7 +29,7 @@ module _ (bytes buffer : List ℕ) (n : ℕ) (e : n ≡ length bytes) where
 
 module _ (market year month : ℕ) where
   -- the sheet by what the check says
-  sheet-by-check : (k : MonthCheck) → checkedMonth market year month ≡ k → sheetOfMonth market year month ≡ tryMonth k SheetResult.Err (SheetResult.Ok (monthSheet market year month))
+  pub sheet-by-check : (k : MonthCheck) → checkedMonth market year month ≡ k → sheetOfMonth market year month ≡ tryMonth k SheetResult.Err (SheetResult.Ok (monthSheet market year month))
   unfolding sheetOfMonth
   sheet-by-check k e = ap (λ (r : MonthCheck). tryMonth r SheetResult.Err (SheetResult.Ok (monthSheet market year month))) e
 

@@ -1,3 +1,3 @@
-pub mod Pieces
+pub mod Splitting
 pub mod Theorem
 pub mod Example

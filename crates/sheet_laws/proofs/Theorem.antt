@@ -7,7 +7,7 @@ use mathlib.Core.List.{List, [], _∷_, _++_, map}
 use lib.Dec.{ltb, leb}
 use lib.ListN.{length, take, length-map}
 use native.Mathlib.Omega.{arith}
-use borrow.Author.Tests.{leb-true}
+use borrow.Author.Tests.{leb-true, le-leb}
 use Rattle.gregorian.specs.Calendar.{monthLength}
 use Rattle.gregorian.proofs.Formulas.{month-high}
 use Rattle.gregorian.proofs.Tests.{and-left, and-right}
@@ -18,21 +18,22 @@ use Rattle.trading_days.proofs.MonthDayLaws.{list-in-month, list-length}
 use Rattle.buffers.proofs.BufferLaws.{overwrite-start}
 use Rattle.error.specs.declared.CountResult.{CountResult}
 use Rattle.error.specs.declared.CalendarError.the-variants.{BufferTooSmall}
+use Rattle.calendar.specs.Calls.{isSupported}
 use Rattle.calendar.specs.RangeCalls.{MonthCheck, checkedMonth, writtenResult, finalBuffer, tradingDaysInMonthResult, tradingDaysInMonthBuffer}
 use Rattle.calendar.proofs.CallLaws.{supported-years}
-use Rattle.calendar.proofs.MonthLaws.{NoMonthError, month-checked, written-ok, month-of-years}
+use Rattle.calendar.proofs.MonthLaws.{NoMonthError, no-month-error, month-checked, written-ok, month-of-years}
 use Rattle.decimal.specs.Decimal.{decimal, valueOf}
 use Rattle.decimal.proofs.DecimalLaws.{length-positive, length-at-most, decimal-digits, decimal-value, no-leading-zero}
 use Rattle.request.specs.declared.Request.{Request}
 use Rattle.request.specs.Text.{ascii, textOf}
 use Rattle.request.specs.Request.{requestText, readRequest}
 use Rattle.sheet.specs.Sheet.{commaSeparated, sheetLines, monthSheet}
-use Rattle.sheet.specs.Call.{SheetResult, sheetOfMonth, sheetOfRequest, sheetWritten, sheetBuffer}
+use Rattle.sheet.specs.Call.{SheetResult, sheetOfMonth, sheetOfRequest, sheetWritten, sheetBuffer, monthSheetResult}
 use Rattle.request.proofs.Form.{reads-the-form}
-use Rattle.sheet.proofs.CallLaws.{sheet-asked}
+use Rattle.sheet.proofs.CallLaws.{sheet-by-check, sheet-asked}
 use Rattle.sheet.proofs.SheetLength.{sheet-length}
 use Rattle.sheet_laws.specs.SheetLaws.{splitLines, firstLines, splitList, IsNumber, SheetLaws, AllSheetLaws}
-use Rattle.sheet_laws.proofs.Pieces.{Above, decimal-above, split-text, numbers-above, split-list}
+use Rattle.sheet_laws.proofs.Splitting.{Above, decimal-above, split-text, first-lines, numbers-above, split-list}
 
 -- ---- numbers
 
@@ -96,6 +97,19 @@ module _ (market year month : ℕ) (k : NoMonthError market year month) where
       (λ d h. is-number d (omega (arith, month-high year month (to-12 .1)))) days (list-in-month market year month))
 
   -- Each line is a name and then digits and commas, so that no line feed occurs in it.
+  above : Every (Above 10) (sheetLines market year month days)
+  unfolding sheetLines
+  above =
+      let m = named (ascii "market=") (omega arith) market in
+      let y = named (ascii "year=") (omega arith) year in
+      let o = named (ascii "month=") (omega arith) month in
+      let c = named (ascii "count=") (omega arith) (length days) in
+      let d = every-append _ (ascii "days=") (commaSeparated days) (omega arith) (numbers-above days) in
+      (m, (y, (o, (c, (d, tt)))))
+    where
+      named : (name : List ℕ) → Above 10 name → (n : ℕ) → Above 10 (name ++ decimal n)
+      named name h n = every-append _ name (decimal n) h (decimal-above 10 n (omega arith))
+
   lines : splitLines (monthSheet market year month) ≡
       (ascii "market=" ++ decimal market)
       ∷ (ascii "year=" ++ decimal year)
@@ -105,16 +119,7 @@ module _ (market year month : ℕ) (k : NoMonthError market year month) where
       ∷ []
       ∷ []
   unfolding sheetLines
-  lines =
-      let m = named (ascii "market=") (omega arith) market in
-      let y = named (ascii "year=") (omega arith) year in
-      let o = named (ascii "month=") (omega arith) month in
-      let c = named (ascii "count=") (omega arith) (length days) in
-      let d = every-append _ (ascii "days=") (commaSeparated days) (omega arith) (numbers-above days) in
-      split-text _ (m, (y, (o, (c, (d, tt)))))
-    where
-      named : (name : List ℕ) → Above 10 name → (n : ℕ) → Above 10 (name ++ decimal n)
-      named name h n = every-append _ name (decimal n) h (decimal-above 10 n (omega arith))
+  lines = split-text _ above
 
   small : (market < 10 ^ 9) × (year < 10 ^ 9) × (month < 10 ^ 9) × (length days < 10 ^ 9)
   small = (
@@ -126,9 +131,9 @@ module _ (market year month : ℕ) (k : NoMonthError market year month) where
 
   -- The first three lines are a text of the form, with the digits of the three numbers.
   read-back : readRequest (firstLines 3 (monthSheet market year month)) ≡ Request.Month market year month
-  unfolding requestText
+  unfolding requestText sheetLines
   read-back =
-      ap (λ (l : List (List ℕ)). readRequest (textOf (take 3 l))) lines
+      ap readRequest (first-lines 3 (sheetLines market year month days) above)
       ∙ reads-the-form .accepts (decimal market) (decimal year) (decimal month)
       (is-number market (small .0) .digit-string) (is-number year (small .1) .digit-string) (is-number month (small .2) .digit-string)
       ∙ (λ j. Request.Month (decimal-value market j) (decimal-value year j) (decimal-value month j))
@@ -176,6 +181,27 @@ by-request text buffer n (Request.Month market year month) e h =
     rw (s .1, w .1) (laws market year month (s .0) text n e (w .0))
 by-request text buffer n Request.Malformed e h = absurd (let z : _≡_ {A = ℕ} 0 1 = cc in omega arith)
 
+years-supported : (year : ℕ) → 2020 ≤ year → year ≤ 2030 → isSupported year ≡ true
+unfolding isSupported
+years-supported year from to = simp (le-leb 2020 year from, le-leb year 2030 to)
+
+-- The text asks for a month without an error, and every sheet has room.
+answered : (text buffer : List ℕ) (market year month : ℕ) → readRequest text ≡ Request.Month market year month → NoMonthError market year month
+    → 136 ≤ length buffer → (n : ℕ) × (monthSheetResult text buffer ≡ CountResult.Ok n)
+answered text buffer market year month e k room =
+    let bytes = monthSheet market year month in
+    let short = sheet-length market year month (k .known) (k .supported) (k .is-month) in (
+      length bytes,
+      ap (λ (r : Request). sheetWritten (sheetOfRequest r) buffer) e
+          ∙ ap (λ (r : SheetResult). sheetWritten r buffer) (sheet-by-check market year month _ (no-month-error market year month k))
+          ∙ written-ok bytes buffer (omega arith),
+    )
+
 -- [sheet-output], [sheet-numbers], [sheet-return]
 pub sheet-laws : AllSheetLaws
-sheet-laws text buffer n h = by-request text buffer n (readRequest text) refl h
+sheet-laws = record {
+  answered = λ text buffer market year month e k from to l u room.
+      answered text buffer market year month e
+      (record { known = k; supported = years-supported year from to; is-month = simp (le-leb 1 month l, le-leb month 12 u) }) room;
+  written = λ text buffer n h. by-request text buffer n (readRequest text) refl h;
+}

@@ -1,6 +1,6 @@
 -- One claim about the bytes that a month sheet's call writes: docs/SCOPE.md [sheet-output], [sheet-numbers], [sheet-return]. The calls are
 -- the definitions that the contracts of the exported functions cite. Assumes nothing.
-use Prim.Native.Nat.{ℕ, _≤_, _<_}
+use Prim.Native.Nat.{ℕ, zero, suc, _≤_, _<_}
 use mathlib.Core.Path.{_≡_}
 use mathlib.Core.Bool.{cond}
 use mathlib.Core.List.{List, [], _∷_, _++_, map}
@@ -12,18 +12,19 @@ use Rattle.error.specs.declared.CountResult.{CountResult}
 use Rattle.calendar.specs.RangeCalls.{tradingDaysInMonthResult, tradingDaysInMonthBuffer}
 use Rattle.decimal.specs.Decimal.{valueOf}
 use Rattle.request.specs.declared.Request.{Request}
-use Rattle.request.specs.Text.{ascii, textOf}
+use Rattle.request.specs.Text.{ascii}
 use Rattle.request.specs.Request.{DigitString, readRequest}
 use Rattle.sheet.specs.Call.{monthSheetResult, monthSheetBuffer}
 
--- ---- the bytes in pieces
+-- ---- the bytes in parts
 
--- the pieces of a text between the separators; `piece` is what was read of the first one
+-- what stands between the separators; `start` is what was read of it before
 unfoldable pub splitFrom : List ℕ → ℕ → List ℕ → List (List ℕ)
-splitFrom piece separator [] = piece ∷ []
-splitFrom piece separator (b ∷ text) =
-    cond (eqb b separator) (piece ∷ splitFrom [] separator text) (splitFrom (piece ++ (b ∷ [])) separator text)
+splitFrom start separator [] = start ∷ []
+splitFrom start separator (b ∷ text) =
+    cond (eqb b separator) (start ∷ splitFrom [] separator text) (splitFrom (start ++ (b ∷ [])) separator text)
 
+-- all that stands between them
 abbrev pub split : ℕ → List ℕ → List (List ℕ)
 split = splitFrom []
 
@@ -31,9 +32,11 @@ split = splitFrom []
 abbrev pub splitLines : List ℕ → List (List ℕ)
 splitLines = split 10
 
--- the text of the first k lines
-abbrev pub firstLines : ℕ → List ℕ → List ℕ
-firstLines k text = textOf (take k (splitLines text))
+-- the text up to line feed k, and it
+unfoldable pub firstLines : ℕ → List ℕ → List ℕ
+firstLines zero text = []
+firstLines (suc k) [] = []
+firstLines (suc k) (b ∷ text) = b ∷ cond (eqb b 10) (firstLines k text) (firstLines (suc k) text)
 
 -- what stands between commas; nothing in an empty text
 unfoldable pub splitList : List ℕ → List (List ℕ)
@@ -89,7 +92,10 @@ pub record SheetLaws (text : List ℕ) (n : ℕ) (written : List ℕ) : Type 0 w
   pub no-error : (buffer : List ℕ) → valueOf count-digits ≤ length buffer
       → tradingDaysInMonthResult market year month buffer ≡ CountResult.Ok (valueOf count-digits)
 
--- for every text and buffer that the call gives no error for
-abbrev pub AllSheetLaws : Type 0
-AllSheetLaws =
-    (text buffer : List ℕ) (n : ℕ) → monthSheetResult text buffer ≡ CountResult.Ok n → SheetLaws text n (take n (monthSheetBuffer text buffer))
+-- for every text and buffer
+pub record AllSheetLaws : Type 0 where
+  -- Where the text asks for a month of 2020 to 2030 of one of the markets, and there is room, the call gives no error.
+  pub answered : (text buffer : List ℕ) (market year month : ℕ) → readRequest text ≡ Request.Month market year month → market ≤ 4 → 2020 ≤ year → year ≤ 2030
+      → 1 ≤ month → month ≤ 12 → 136 ≤ length buffer → (n : ℕ) × (monthSheetResult text buffer ≡ CountResult.Ok n)
+  -- Where it gives none, the bytes written are the sheet of such a month.
+  pub written : (text buffer : List ℕ) (n : ℕ) → monthSheetResult text buffer ≡ CountResult.Ok n → SheetLaws text n (take n (monthSheetBuffer text buffer))
