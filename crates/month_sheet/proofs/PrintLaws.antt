@@ -12,14 +12,13 @@ use Rattle.error.specs.declared.CalendarError.{CalendarError}
 use Rattle.error.specs.declared.CalendarError.the-variants.{MalformedText, UnknownMarket, InvalidDate, TimeOutOfRange, DateOutOfRange}
 use Rattle.error.specs.declared.CalendarError.the-variants.{InvalidDateCalculation, NoTradingDayFound, BufferTooSmall, InvalidSession, InvalidTime}
 use Rattle.error.specs.Errors.{errorFields, errorNumber}
-use Rattle.calendar.specs.RangeCalls.{MonthCheck, checkedMonth, writtenResult, finalBuffer}
-use Rattle.calendar.proofs.MonthLaws.{month-checked, written-ok}
+use Rattle.calendar.specs.RangeCalls.{writtenResult, finalBuffer}
+use Rattle.calendar.proofs.MonthLaws.{written-ok}
 use Rattle.answers.specs.declared.counts.CountAnswer.{CountAnswer}
 use Rattle.answers.specs.Answers.{countAnswer}
 use Rattle.request.specs.declared.Request.{Request}
 use Rattle.request.specs.Request.{readRequest}
-use Rattle.sheet.specs.Sheet.{monthSheet}
-use Rattle.sheet.specs.Call.{SheetResult, sheetOfMonth, sheetOfRequest, sheetOf, sheetWritten, sheetBuffer, monthSheetResult, monthSheetBuffer}
+use Rattle.sheet.specs.Call.{SheetResult, sheetOfRequest, sheetOf, sheetWritten, sheetBuffer, monthSheetResult, monthSheetBuffer}
 use Rattle.sheet.proofs.CallLaws.{sheet-asked}
 use Rattle.sheet.proofs.SheetLength.{sheet-length}
 use Rattle.month_sheet.specs.Printed.{refusedLine, printedResult, printed}

@@ -1,6 +1,6 @@
 -- The reader accepts exactly the texts of the form.
 -- Assumes nothing.
-use Prim.Native.Nat.{ℕ, _+_, _^_, _≤_, _<_}
+use Prim.Native.Nat.{ℕ, _+_, _≤_}
 use mathlib.Core.Path.{_≡_, refl, sym, ap, _∙_}
 use mathlib.Core.Bool.{true}
 use mathlib.Core.List.{List, [], _∷_, _++_, append-assoc}
@@ -9,7 +9,7 @@ use lib.Seq.{take-append-seam, drop-append-seam, getD-append-seam}
 use native.Mathlib.Omega.{arith}
 use borrow.Author.Tests.{eq-eqb}
 use Rattle.decimal.specs.Decimal.{isDigit, leadingDigits, valueOf}
-use Rattle.decimal.proofs.DigitLaws.{leading-append, value-bound}
+use Rattle.decimal.proofs.DigitLaws.{leading-append}
 use Rattle.request.specs.Text.{ascii, textOf}
 use Rattle.request.specs.Request.{DigitString, requestText, startsWith, readNumber, after, readLine, onLine, atEnd, readMonth, readYear, readRequest}
 use Rattle.request.specs.Form.{HasForm, ReadsTheForm}

@@ -7,7 +7,6 @@ use lib.ListN.{length, getD, take, drop, length-append}
 use lib.Seq.{drop-cons}
 use native.Mathlib.Numerals.{add-one}
 use native.Mathlib.Omega.{arith}
-use Rattle.buffers.specs.Buffers.{overwrite}
 use Rattle.buffers.proofs.BufferLaws.{rest-is}
 use Rattle.decimal.specs.Decimal.{decimal}
 use Rattle.request.specs.Text.{ascii, textOf}

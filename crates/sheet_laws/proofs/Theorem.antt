@@ -19,13 +19,13 @@ use Rattle.buffers.proofs.BufferLaws.{overwrite-start}
 use Rattle.error.specs.declared.CountResult.{CountResult}
 use Rattle.error.specs.declared.CalendarError.the-variants.{BufferTooSmall}
 use Rattle.calendar.specs.Calls.{isSupported}
-use Rattle.calendar.specs.RangeCalls.{MonthCheck, checkedMonth, writtenResult, finalBuffer, tradingDaysInMonthResult, tradingDaysInMonthBuffer}
+use Rattle.calendar.specs.RangeCalls.{writtenResult, finalBuffer, tradingDaysInMonthResult, tradingDaysInMonthBuffer}
 use Rattle.calendar.proofs.CallLaws.{supported-years}
-use Rattle.calendar.proofs.MonthLaws.{NoMonthError, no-month-error, month-checked, written-ok, month-of-years}
+use Rattle.calendar.proofs.MonthLaws.{NoMonthError, no-month-error, written-ok, month-of-years}
 use Rattle.decimal.specs.Decimal.{decimal, valueOf}
 use Rattle.decimal.proofs.DecimalLaws.{length-positive, length-at-most, decimal-digits, decimal-value, no-leading-zero}
 use Rattle.request.specs.declared.Request.{Request}
-use Rattle.request.specs.Text.{ascii, textOf}
+use Rattle.request.specs.Text.{ascii}
 use Rattle.request.specs.Request.{requestText, readRequest}
 use Rattle.sheet.specs.Sheet.{commaSeparated, sheetLines, monthSheet}
 use Rattle.sheet.specs.Call.{SheetResult, sheetOfMonth, sheetOfRequest, sheetWritten, sheetBuffer, monthSheetResult}
