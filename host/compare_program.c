@@ -5,6 +5,7 @@
 #include "plain_calendar.h"
 #include "sheet_texts.h"
 
+#include <errno.h>
 #include <fcntl.h>
 #include <signal.h>
 #include <spawn.h>
@@ -17,15 +18,15 @@
 
 extern char **environ;
 
-/* The bytes that are put beside a text to make an input too long. */
+/* How many bytes are put beside a text to make an input too long, and which. */
 enum { MEGABYTE = 1 << 20 };
 static const size_t sizes[] = {1,   20,  21,  28,   47,   48,   49,   63,   64,   65,    127,   128,   129,
                                255, 256, 257, 1023, 1024, 1025, 4095, 4096, 4097, 65535, 65536, 65537, MEGABYTE};
 static const uint8_t fills[] = {'\n', '0', 0};
 
-/* Two texts of the form, the second as long as there can be, and two that lack and have one byte too many. */
-static const char *const samples[] = {example_text, "market=000000003\nyear=000002025\nmonth=000000005\n",
-                                      "market=4\nyear=2022\nmonth=12", "market=4\nyear=2022\nmonth=12\n\n"};
+/* Two texts of the form; the example without its last line feed, and with one too many. */
+static const char *const samples[] = {example_text, longest_text, "market=4\nyear=2022\nmonth=12",
+                                      "market=4\nyear=2022\nmonth=12\n\n"};
 enum { FORMS_OF_SAMPLES = 2, BYTES_OF_SAMPLES = 28 + 48 + 27 + 29 };
 
 /* Of the texts that tc_month_sheet is asked about, every 61st. */
@@ -34,14 +35,14 @@ static tally inputs = {.name = "month_sheet",
                        .meant = MONTHS + (VALUE_TEXTS + DAMAGED_TEXTS + DRAWN_TEXTS + EVERY - 1) / EVERY +
                                 4 * FORMS_OF_SAMPLES * LENGTH(sizes) * LENGTH(fills) + BYTES_OF_SAMPLES};
 
-/* The program; the process that runs it now, or 0; the seconds after which all have to be compared. */
+/* The program; the process that runs it now, or 0; the seconds in which all inputs have to be compared. */
 static char *program;
 static volatile pid_t running;
 enum { SECONDS = 120 };
 
-/* A program that does not end is stopped. */
+/* When the time for all inputs is up: the program, which may not end by itself, is stopped, and so is the comparison. */
 static void stop(int number) {
-    static const char message[] = "month_sheet does not end\n";
+    static const char message[] = "month_sheet: not all inputs were compared in time\n";
     (void)number;
     if (running > 0) kill(running, SIGKILL);
     _exit(write(STDERR_FILENO, message, sizeof message - 1) < 0 ? 2 : 1);
@@ -86,7 +87,8 @@ static void start(int in, int out) {
     posix_spawn_file_actions_init(&actions);
     posix_spawn_file_actions_adddup2(&actions, in, STDIN_FILENO);
     posix_spawn_file_actions_adddup2(&actions, out, STDOUT_FILENO);
-    if (posix_spawn(&id, program, &actions, &attributes, words, environ) != 0) give_up(program);
+    errno = posix_spawn(&id, program, &actions, &attributes, words, environ);
+    if (errno != 0) give_up(program);
     posix_spawn_file_actions_destroy(&actions);
     posix_spawnattr_destroy(&attributes);
     running = id;

@@ -12,109 +12,8 @@
 
 enum call { SHEET, AGAIN, AS_LISTED, NO_ZEROS, UP_TO_104, CALLS };
 
-/* The call and the laws, and how many comparisons the loops below make. A text is asked about over each fill. */
-enum { FILLS = 4 };
-static tally calls[CALLS] = {
-    [SHEET] = {.name = "tc_month_sheet",
-               .meant = FILLS * (MONTHS * 2 * 6 + 12 * 207 + VALUE_TEXTS * 2 + DAMAGED_TEXTS + DRAWN_TEXTS * 2) + 18},
-    [AGAIN] = {.name = "the first lines of a sheet, read again", .meant = MONTHS},
-    [AS_LISTED] = {.name = "the days of a sheet, as listed", .meant = MONTHS},
-    [NO_ZEROS] = {.name = "sheets without leading zeros", .meant = MONTHS},
-    [UP_TO_104] = {.name = "sheets of up to 104 bytes", .meant = MONTHS},
-};
-
 /* The text and the buffer, of any length up to the longest, lie between other bytes. A sheet takes less than ROOM. */
 enum { BESIDE = 64, LONGEST = 65536 + 48, AREA = BESIDE + LONGEST + BESIDE, ROOM = 200 };
-
-static void show_text(const uint8_t *text, size_t length) {
-    printf("  text: ");
-    for (size_t i = 0; i < length && i < 100; i++)
-        if (text[i] >= ' ' && text[i] <= '~')
-            printf("%c", text[i]);
-        else
-            printf("\\x%02x", (unsigned)text[i]);
-    printf("\n");
-}
-
-/* The fields of the answer, then the first place at which two areas differ, the byte there, and whether the text is as it was. */
-static numbers of_sheet(tc_count_result answer, const uint8_t *area, size_t place, size_t size, int is_text_kept) {
-    numbers list = of_count(answer);
-    list.values[list.count++] = (uint32_t)place;
-    list.values[list.count++] = place < size ? area[place] : 0;
-    list.values[list.count++] = (uint32_t)is_text_kept;
-    return list;
-}
-
-/* Both read the first bytes of the text, which is followed by its other bytes and then by the fill, and write into an area of the
- * fill. All bytes are compared, those beside the buffer too. */
-static void sheet_over(uint8_t fill, const uint8_t *text, size_t size, size_t length, size_t room) {
-    static uint8_t given[AREA], area[AREA], plain_area[AREA];
-    size_t whole = BESIDE + room + BESIDE, place = 0;
-    numbers in = {3, {(uint32_t)length, (uint32_t)room, fill}};
-    tc_count_result answer, expected;
-    int is_text_kept;
-
-    memset(given, fill, BESIDE + size + BESIDE);
-    memcpy(given + BESIDE, text, size);
-    memset(area, fill, whole);
-    memset(plain_area, fill, whole);
-    answer = tc_month_sheet(given + BESIDE, length, area + BESIDE, room);
-    expected = plain_month_sheet(text, length, plain_area + BESIDE, room);
-    is_text_kept = memcmp(given + BESIDE, text, size) == 0;
-    while (place < whole && area[place] == plain_area[place]) place++;
-    if (compare(&calls[SHEET], in, of_sheet(answer, area, place, whole, is_text_kept),
-                of_sheet(expected, plain_area, place, whole, 1)))
-        show_text(text, length);
-}
-
-/* Over 0 and over 255 each byte that is written changes one of the areas; a line feed or a digit is what a text cut short lacks. */
-static void sheet_within(const uint8_t *text, size_t size, size_t length, size_t room) {
-    static const uint8_t fills[FILLS] = {0, UINT8_MAX, '\n', '1'};
-    for (int i = 0; i < FILLS; i++) sheet_over(fills[i], text, size, length, room);
-}
-
-static void sheet_of_string(const char *text, size_t room) {
-    sheet_within((const uint8_t *)text, strlen(text), strlen(text), room);
-}
-
-/* On no bytes, one, one too few, just enough, one more, and more than enough. */
-static void sheets_of_month(uint32_t market, uint32_t year, uint32_t month) {
-    for (int digits = 1; digits <= 9; digits += 8) {
-        char text[64];
-        uint8_t bytes[ROOM];
-        size_t length = text_of(text, digits, market, year, month);
-        size_t size = plain_month_sheet((uint8_t *)text, length, bytes, sizeof bytes).count;
-        size_t rooms[] = {0, 1, size - 1, size, size + 1, ROOM};
-        for (size_t i = 0; i < LENGTH(rooms); i++) sheet_of_string(text, rooms[i]);
-    }
-}
-
-/* Every length up to 200, and those around lengths whose low byte, or low half, is 0. */
-static void sheet_on_all_rooms(uint32_t market, uint32_t year, uint32_t month) {
-    static const size_t rooms[] = {255, 256, 257, 65535, 65536, 65537};
-    char text[64];
-    text_of(text, 1, market, year, month);
-    for (size_t room = 0; room <= ROOM; room++) sheet_of_string(text, room);
-    for (size_t i = 0; i < LENGTH(rooms); i++) sheet_of_string(text, rooms[i]);
-}
-
-static void all_sheets(void) {
-    each_month(sheets_of_month);
-    for (uint32_t month = 1; month <= 12; month++) sheet_on_all_rooms(month % 5, 2019 + month % 11, month);
-}
-
-static void with_room(const uint8_t *text, size_t size, size_t length) { sheet_within(text, size, length, ROOM); }
-
-/* Every other error comes before 9. */
-static void without_room(const uint8_t *text, size_t size, size_t length) {
-    sheet_within(text, size, length, 0);
-    with_room(text, size, length);
-}
-
-static void with_drawn_room(const uint8_t *text, size_t size, size_t length) {
-    sheet_within(text, size, length, drawn() % 130);
-    with_room(text, size, length);
-}
 
 /* Any two errors, the first of which is the answer; the number of bytes with 9; the dates of error 1 [month-error-date]. */
 static const struct {
@@ -141,6 +40,121 @@ static const struct {
     {"market=4\nyear=999999999\nmonth=999999999\n", ROOM, {5, {1, 0, 1970, 1, 1}}},
 };
 
+/* The call and the laws, and how many comparisons the loops below make. A text is asked about with each fill. */
+enum { FILLS = 4 };
+static tally calls[CALLS] = {
+    [SHEET] = {.name = "tc_month_sheet",
+               .meant =
+                   FILLS * (MONTHS * 2 * 6 + 12 * 207 + VALUE_TEXTS * 2 + DAMAGED_TEXTS + DRAWN_TEXTS * 2) + LENGTH(answers) + 1},
+    [AGAIN] = {.name = "the first lines of a sheet, read again", .meant = MONTHS},
+    [AS_LISTED] = {.name = "the days of a sheet, as listed", .meant = MONTHS},
+    [NO_ZEROS] = {.name = "sheets without leading zeros", .meant = MONTHS},
+    [UP_TO_104] = {.name = "sheets of up to 104 bytes", .meant = MONTHS},
+};
+
+static void show_text(const uint8_t *text, size_t length) {
+    printf("  text: ");
+    for (size_t i = 0; i < length && i < 100; i++)
+        if (text[i] >= ' ' && text[i] <= '~')
+            printf("%c", text[i]);
+        else
+            printf("\\x%02x", (unsigned)text[i]);
+    printf("\n");
+}
+
+/* The fields of the answer, then the first place at which two areas differ, the byte there, and whether the text is as it was. */
+static numbers of_sheet(tc_count_result answer, const uint8_t *area, size_t place, size_t size, int is_text_kept) {
+    numbers list = of_count(answer);
+    list.values[list.count++] = (uint32_t)place;
+    list.values[list.count++] = place < size ? area[place] : 0;
+    list.values[list.count++] = (uint32_t)is_text_kept;
+    return list;
+}
+
+/* Both read the first bytes of the text, which is followed by its other bytes and then by the fill, and write into an area of the
+ * fill. All bytes are compared, those beside the buffer too. */
+static void sheet_with_fill(uint8_t fill, const uint8_t *text, size_t size, size_t length, size_t room) {
+    static uint8_t given[AREA], area[AREA], plain_area[AREA];
+    size_t whole = BESIDE + room + BESIDE, place = 0;
+    numbers in = {3, {(uint32_t)length, (uint32_t)room, fill}};
+    tc_count_result answer, expected;
+    int is_text_kept;
+
+    memset(given, fill, BESIDE + size + BESIDE);
+    memcpy(given + BESIDE, text, size);
+    memset(area, fill, whole);
+    memset(plain_area, fill, whole);
+    answer = tc_month_sheet(given + BESIDE, length, area + BESIDE, room);
+    expected = plain_month_sheet(text, length, plain_area + BESIDE, room);
+    is_text_kept = memcmp(given + BESIDE, text, size) == 0;
+    while (place < whole && area[place] == plain_area[place]) place++;
+    if (compare(&calls[SHEET], in, of_sheet(answer, area, place, whole, is_text_kept),
+                of_sheet(expected, plain_area, place, whole, 1)))
+        show_text(text, length);
+}
+
+/* With 0 or with 255 each byte that is written changes one of the areas; a line feed or a digit is what a text cut short lacks. */
+static void sheet_within(const uint8_t *text, size_t size, size_t length, size_t room) {
+    static const uint8_t fills[FILLS] = {0, UINT8_MAX, '\n', '1'};
+    for (int i = 0; i < FILLS; i++) sheet_with_fill(fills[i], text, size, length, room);
+}
+
+static void sheet_of_string(const char *text, size_t room) {
+    sheet_within((const uint8_t *)text, strlen(text), strlen(text), room);
+}
+
+/* On no bytes, one, one too few, just enough, one more, and more than enough. */
+static void sheet_at_its_size(const char *text) {
+    uint8_t bytes[ROOM];
+    size_t size = plain_month_sheet((const uint8_t *)text, strlen(text), bytes, sizeof bytes).count;
+    size_t rooms[] = {0, 1, size - 1, size, size + 1, ROOM};
+    for (size_t i = 0; i < LENGTH(rooms); i++) sheet_of_string(text, rooms[i]);
+}
+
+/* With the fewest digits and with the most. */
+static void sheets_of_month(uint32_t market, uint32_t year, uint32_t month) {
+    char text[64];
+    text_of(text, 1, market, year, month);
+    sheet_at_its_size(text);
+    text_of(text, 9, market, year, month);
+    sheet_at_its_size(text);
+}
+
+static void sheet_on_small_rooms(const char *text) {
+    for (size_t room = 0; room <= ROOM; room++) sheet_of_string(text, room);
+}
+
+/* Those around lengths whose low byte, or low half, is 0. */
+static void sheet_on_large_rooms(const char *text) {
+    static const size_t rooms[] = {255, 256, 257, 65535, 65536, 65537};
+    for (size_t i = 0; i < LENGTH(rooms); i++) sheet_of_string(text, rooms[i]);
+}
+
+static void sheet_on_all_rooms(uint32_t market, uint32_t year, uint32_t month) {
+    char text[64];
+    text_of(text, 1, market, year, month);
+    sheet_on_small_rooms(text);
+    sheet_on_large_rooms(text);
+}
+
+static void all_sheets(void) {
+    each_month(sheets_of_month);
+    for (uint32_t month = 1; month <= 12; month++) sheet_on_all_rooms(month % 5, 2020 + month % 11, month);
+}
+
+static void with_room(const uint8_t *text, size_t size, size_t length) { sheet_within(text, size, length, ROOM); }
+
+/* Every other error comes before 9. */
+static void without_room(const uint8_t *text, size_t size, size_t length) {
+    sheet_within(text, size, length, 0);
+    with_room(text, size, length);
+}
+
+static void with_drawn_room(const uint8_t *text, size_t size, size_t length) {
+    sheet_within(text, size, length, drawn() % 130);
+    with_room(text, size, length);
+}
+
 static tc_count_result ask(const char *text, uint8_t *out, size_t room) {
     return tc_month_sheet((const uint8_t *)text, strlen(text), out, room);
 }
@@ -152,6 +166,7 @@ static void examples(void) {
     for (size_t i = 0; i < LENGTH(answers); i++)
         if (compare(&calls[SHEET], in, of_count(ask(answers[i].text, bytes, answers[i].room)), answers[i].expected))
             show_text((const uint8_t *)answers[i].text, strlen(answers[i].text));
+    memset(bytes, 0, sizeof bytes);
     answered = of_count(ask(example_text, bytes, sizeof bytes));
     answered.values[answered.count++] = memcmp(bytes, example_sheet, strlen(example_sheet)) == 0;
     compare(&calls[SHEET], in, answered, expected);
@@ -179,22 +194,32 @@ static void again(numbers in, const char *sheet) {
     compare(&calls[AGAIN], in, answered, expected);
 }
 
+/* The numbers of a list of days, up to 31 of them, each followed by one byte. Answers how many there are. */
+static uint32_t read_days(const char *list, uint8_t *days) {
+    uint32_t count = 0;
+    while (*list != '\0' && count < 31) {
+        char *end;
+        days[count++] = (uint8_t)strtoul(list, &end, 10);
+        list = end + (*end != '\0');
+    }
+    return count;
+}
+
 /* The numbers of the sheet are those given, how many trading days the month has, and these. */
 static void as_listed(numbers in, const char *sheet) {
-    unsigned long n[4] = {0};
-    uint8_t listed[31], days[31] = {0};
+    unsigned long market = 0, year = 0, month = 0, days = 0;
+    uint8_t listed[31], read[31] = {0};
     uint32_t count = tc_trading_days_in_month(in.values[0], in.values[1], in.values[2], listed, sizeof listed).count;
     numbers answered = {6, {0}}, expected = {6, {in.values[0], in.values[1], in.values[2], count, count, 1}};
     int place = 0;
 
-    sscanf(sheet, "market=%lu\nyear=%lu\nmonth=%lu\ncount=%lu\ndays=%n", &n[0], &n[1], &n[2], &n[3], &place);
-    for (int i = 0; i < 4; i++) answered.values[i] = (uint32_t)n[i];
-    while (sheet[place] != '\0' && answered.values[4] < 31) {
-        char *end;
-        days[answered.values[4]++] = (uint8_t)strtoul(sheet + place, &end, 10);
-        place = (int)(end - sheet) + (*end != '\0');
-    }
-    answered.values[5] = memcmp(days, listed, count) == 0;
+    sscanf(sheet, "market=%lu\nyear=%lu\nmonth=%lu\ncount=%lu\ndays=%n", &market, &year, &month, &days, &place);
+    answered.values[0] = (uint32_t)market;
+    answered.values[1] = (uint32_t)year;
+    answered.values[2] = (uint32_t)month;
+    answered.values[3] = (uint32_t)days;
+    answered.values[4] = read_days(sheet + place, read);
+    answered.values[5] = memcmp(read, listed, count) == 0;
     compare(&calls[AS_LISTED], in, answered, expected);
 }
 
