@@ -33,11 +33,14 @@ pub extern "C" fn all_years_day(market: u32, year: u32, month: u32, day: u32) ->
     ensures { λ r. ⌜ r ≡ dayAnswer market (knownDay market year month day) ⌝ }
 {
     match known_day(market, year, month, day) {
-        OptionalDay::Day(n) => DayAnswer {
-            known: true,
-            holiday: markets::is_holiday(market, n),
-            trades: markets::is_trading_day(market, n),
-        },
+        OptionalDay::Day(n) => {
+            let known_year = gregorian::year_of(n);
+            DayAnswer {
+                known: true,
+                holiday: markets::is_holiday(market, known_year, n),
+                trades: markets::is_trading_day(market, known_year, n),
+            }
+        }
         OptionalDay::None => DayAnswer {
             known: false,
             holiday: false,

@@ -14,10 +14,11 @@ use Rattle.gregorian.proofs.Total.{upto}
 use Rattle.gregorian.proofs.Laws.{days-on, date-by}
 use Rattle.utils.specs.declared.OptionalDay.{OptionalDay}
 use Rattle.utils.specs.declared.OptionalDay.the-variants.{Day, None}
-use Rattle.utils.specs.Weekday.{mapDay}
+use Rattle.utils.specs.Weekday.{mapDay, nthWeekdayOfMonth, lastWeekdayOfMonth}
+use Rattle.utils.proofs.WeekdayLaws.{nth-weekday, last-weekday}
 use Rattle.utils.specs.Easter.{easter, calculateEaster}
 use Rattle.utils.proofs.EasterLaws.{easter-range, easter-found}
-use Rattle.days.specs.Days.{contains, insert, insertIf, insertDay, isDay, isAroundEaster, matchWeekend}
+use Rattle.days.specs.Days.{contains, insert, insertIf, insertDay, isDay, isBetween, isAroundEaster, matchWeekend}
 use Rattle.days.specs.Requires.{everyYearHas}
 
 pub or-assoc : (a b c : Bool) → (a || (b || c)) ≡ (a || b || c)
@@ -27,6 +28,13 @@ or-assoc false b c = refl
 pub or-false : (a : Bool) → (a || false) ≡ a
 or-false true = refl
 or-false false = refl
+
+pub or-swap : (a b c : Bool) → (a || b || c) ≡ (a || c || b)
+or-swap true b c = refl
+or-swap false true true = refl
+or-swap false true false = refl
+or-swap false false true = refl
+or-swap false false false = refl
 
 -- what a list contains after an insertion
 contains-append : (ds : List ℕ) (d n : ℕ) → contains (ds ++ d ∷ []) n ≡ (contains ds n || eqb n d)
@@ -59,21 +67,46 @@ day-is r d n e = ap (λ (o : OptionalDay). isDay o n) e
 pub none-is : (r : OptionalDay) (n : ℕ) → None ≡ r → false ≡ isDay r n
 none-is r n e = ap (λ (o : OptionalDay). isDay o n) e
 
+-- A day that is not between two others is not one that is.
+pub not-between : (first last d n : ℕ) → first ≤ d → d ≤ last → isBetween first last n ≡ false → false ≡ eqb n d
+not-between first last d n l u e = by (eqb n d) refl
+  where
+    by : (b : Bool) → eqb n d ≡ b → false ≡ b
+    by true q =
+        let p = eqb-true n d q in
+        let between : isBetween first last n ≡ true = simp (le-leb first n (omega (arith, p, l)), le-leb n last (omega (arith, p, u))) in
+        sym e ∙ between
+    by false q = refl
+
+-- The answer of a rule that names a weekday is that weekday, and so no other day.
+other-weekday : (r : OptionalDay) (w n : ℕ) → ((d : ℕ) → r ≡ Day d → weekdayOf d ≡ w) → (weekdayOf n ≡ w → ⊥) → false ≡ isDay r n
+other-weekday (Day d) w n h k = sym (ne-eqb n d (λ q. k (ap weekdayOf q ∙ h d refl)))
+other-weekday None w n h k = refl
+
+pub not-nth : (y m w k n : ℕ) → (weekdayOf n ≡ w → ⊥) → false ≡ isDay (nthWeekdayOfMonth y m w k) n
+not-nth y m w k n = other-weekday _ w n (λ d e. nth-weekday y m w k d e .weekday)
+
+pub not-last : (y m w n : ℕ) → (weekdayOf n ≡ w → ⊥) → false ≡ isDay (lastWeekdayOfMonth y m w) n
+not-last y m w n = other-weekday _ w n (λ d e. last-weekday y m w d e .weekday)
+
 -- Good Friday and Easter Monday are around Easter, and so none of them is another day.
 pub around-easter : (y : ℕ) → (dayNumber y 3 20 + 2 ≤ easter y) × (easter y + 1 ≤ dayNumber y 4 26)
 around-easter y = omega (arith, easter-range y, days-on y 3 20 2, days-on y 4 25 1)
 
 pub away-from-easter : (f : ℕ → ℕ) (y n : ℕ) → (1 ≤ y) × (y ≤ lastYear) → dayNumber y 3 20 ≤ f (easter y) → f (easter y) ≤ dayNumber y 4 26 → isAroundEaster y n ≡ false → false ≡ isDay (mapDay f (calculateEaster y)) n
 away-from-easter f y n h l u e =
-    sym (ap (λ (o : OptionalDay). isDay (mapDay f o) n) (easter-found y (h .0) (h .1)) ∙ other (eqb n (f (easter y))) refl)
+    not-between _ _ (f (easter y)) n l u e ∙ ap (λ (o : OptionalDay). isDay (mapDay f o) n) (sym (easter-found y (h .0) (h .1)))
+
+-- Where a `match` on the weekend leads to.
+pub match-between : (first last n s t : ℕ) → (first ≤ n) × (n ≤ last) → (first ≤ s) × (s ≤ last) → (first ≤ t) × (t ≤ last)
+    → (first ≤ matchWeekend n s t) × (matchWeekend n s t ≤ last)
+unfolding matchWeekend
+match-between first last n s t h k l = by (eqb (weekdayOf n) saturday) (eqb (weekdayOf n) sunday)
   where
-    other : (b : Bool) → eqb n (f (easter y)) ≡ b → b ≡ false
-    other true q =
-        let p = eqb-true n (f (easter y)) q in
-        let a : isAroundEaster y n ≡ true =
-        simp (le-leb (dayNumber y 3 20) n (omega (arith, p, l)), le-leb n (dayNumber y 4 26) (omega (arith, p, u))) in
-        sym a ∙ e
-    other false q = refl
+    by : (a b : Bool) → (first ≤ cond a s (cond b t n)) × (cond a s (cond b t n) ≤ last)
+    by true b = k
+    by false true = l
+    by false false = h
 
 -- The arms of a `match` on the weekday of d, which is day n: one of a weekday k, and the last.
 pub on-key : (f g : ℕ → ℕ) (d n k : ℕ) → weekdayOf d ≡ k → d ≡ n → cond (eqb k saturday) (f d) (cond (eqb k sunday) (g d) d) ≡ matchWeekend n (f n) (g n)

@@ -31,9 +31,13 @@ abbrev pub isDay : OptionalDay → ℕ → Bool
 isDay (Day d) n = eqb n d
 isDay None n = false
 
+-- day n is one of these days, both included
+abbrev pub isBetween : ℕ → ℕ → ℕ → Bool
+isBetween first last n = leb first n && leb n last
+
 -- day n is from 20 March to 26 April, as Good Friday and Easter Monday always are
 abbrev pub isAroundEaster : ℕ → ℕ → Bool
-isAroundEaster year n = leb (dayNumber year 3 20) n && leb n (dayNumber year 4 26)
+isAroundEaster year n = isBetween (dayNumber year 3 20) (dayNumber year 4 26) n
 
 -- `match n.weekday() { Sat => s, Sun => t, _ => n }`
 unfoldable pub matchWeekend : ℕ → ℕ → ℕ → ℕ

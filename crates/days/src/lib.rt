@@ -3,9 +3,10 @@
 ghost use mathlib.Core.Path.{_≡_};
 ghost use mathlib.Core.Bool.{true};
 ghost use Prim.Native.Nat.{_≤_};
+ghost use lib.Dec.{eqb};
 ghost use Rattle.gregorian.specs.Calendar.{lastYear, lastDay, dayNumber};
 ghost use Rattle.utils.specs.Easter.{calculateGoodFriday};
-ghost use Rattle.days.specs.Days.{isDay, isAroundEaster, adjustForWeekend};
+ghost use Rattle.days.specs.Days.{isDay, isBetween, isAroundEaster, adjustForWeekend};
 ghost use Rattle.days.specs.Requires.{everyYearHas};
 use gregorian::SATURDAY;
 use gregorian::SUNDAY;
@@ -32,12 +33,23 @@ fn adjust_for_weekend(n: u32) -> u32
     }
 }
 
-// A day that every year has, on Monday if on a weekend.
-pub fn observed(year: u32, month: u32, day: u32) -> u32
-    requires { ⌜ (1 ≤ year) × (year ≤ lastYear) × (everyYearHas month day ≡ true) ⌝ }
-    ensures { λ r. ⌜ r ≡ adjustForWeekend (dayNumber year month day) ⌝ }
+// Whether day n is one of these days, both included.
+pub fn is_between(first: u32, last: u32, n: u32) -> bool
+    ensures { λ r. ⌜ r ≡ isBetween first last n ⌝ }
 {
-    adjust_for_weekend(fixed_day(year, month, day))
+    (first <= n) & (n <= last)
+}
+
+// Whether n is a day that every year has, or the Monday that it moves to. Only that day and the two after it are compared.
+pub fn is_observed(year: u32, month: u32, day: u32, n: u32) -> bool
+    requires { ⌜ (1 ≤ year) × (year ≤ lastYear) × (everyYearHas month day ≡ true) ⌝ }
+    ensures { λ r. ⌜ r ≡ eqb n (adjustForWeekend (dayNumber year month day)) ⌝ }
+{
+    let date = fixed_day(year, month, day);
+    if !is_between(date, date + 2, n) {
+        return false;
+    }
+    n == adjust_for_weekend(date)
 }
 
 // From 20 March to 26 April. Easter is from 22 March to 25 April, so on other days it need not be computed.
@@ -45,7 +57,7 @@ pub fn is_around_easter(year: u32, n: u32) -> bool
     requires { ⌜ (1 ≤ year) × (year ≤ lastYear) ⌝ }
     ensures { λ r. ⌜ r ≡ isAroundEaster year n ⌝ }
 {
-    (fixed_day(year, 3, 20) <= n) & (n <= fixed_day(year, 4, 26))
+    is_between(fixed_day(year, 3, 20), fixed_day(year, 4, 26), n)
 }
 
 pub fn is_good_friday(year: u32, n: u32) -> bool

@@ -261,3 +261,7 @@ before-number s t hs ht l =
     (λ (w : Before t s ⊎ (number s ≡ number t)).
     ⊎-elim (λ (b : Before t s). let g = number-before t s ht hs b in absurd (omega (arith, g))) (λ (e : number s ≡ number t). absurd (omega arith)) w)
     (trichotomy s t)
+
+-- the year of a date, by its day number
+pub year-of-number : (y m d : ℕ) → isDate y m d ≡ true → y ≡ dateOf (dayNumber y m d) .year
+year-of-number y m d h = sym (ap (λ (t : Date). t .year) (date-of-number (date y m d) (is-date y m d h .exists)))

@@ -64,6 +64,7 @@ pub fn days_in_month(year: u32, month: u32) -> u32
     }
 }
 
+// Every month has 28 days, and its length is asked for only past them.
 pub fn is_date(year: u32, month: u32, day: u32) -> bool
     ensures { λ r. ⌜ r ≡ isDate year month day ⌝ }
 {
@@ -81,6 +82,9 @@ pub fn is_date(year: u32, month: u32, day: u32) -> bool
     }
     if day < 1 {
         return false;
+    }
+    if day < 29 {
+        return true;
     }
     day <= days_in_month(year, month)
 }

@@ -17,10 +17,10 @@ use Rattle.utils.specs.declared.OptionalDay.{OptionalDay}
 use Rattle.utils.specs.declared.OptionalDay.the-variants.{Day, None}
 use Rattle.utils.specs.Weekday.{nthWeekdayOfMonth}
 use Rattle.utils.proofs.WeekdayLaws.{when-day, first-near, nth-weekday}
-use Rattle.days.specs.Days.{contains, insert, insertIf, insertDay, isDay}
+use Rattle.days.specs.Days.{contains, insert, insertIf, insertDay, isDay, isBetween}
 use Rattle.days.specs.Requires.{everyYearHas, everyBetween}
 use Rattle.japan.specs.Japan.{substituteDay, addWithSubstitute, addDayWithSubstitute, vernalDays, autumnalDays, equinox, applyGoldenWeekRules, getJapanHolidays, isWithSubstitute, isDayWithSubstitute, isBridgeDay, isHolidayToMarch, isGoldenWeekHoliday, isHolidayFromJuly, isJapanHoliday}
-use Rattle.days.proofs.DayLaws.{or-assoc, or-false, contains-none, contains-insert, contains-if, every-year-date}
+use Rattle.days.proofs.DayLaws.{or-assoc, or-false, contains-none, contains-insert, contains-if, not-between, every-year-date}
 
 -- The equinoxes: what is computed of a table holds of each of its days.
 between : (low high : ℕ) (list : List ℕ) (k i : ℕ) → everyBetween low high list k ≡ true → i < k → (low ≤ getD list i 0) × (getD list i 0 ≤ high)
@@ -146,6 +146,10 @@ without true a b c d e h = refl
 without false a b c true e h = cc (h refl)
 without false a b c false e h = ap (λ (t : Bool). t || e) (or-false (a || b || c)) ∙ sym (or-assoc a (b || c) e ∙ ap (λ (t : Bool). t || e) (or-assoc a b c))
 
+and-false : (a : Bool) → (a && false) ≡ false
+and-false true = refl
+and-false false = refl
+
 or-true : (a : Bool) → (a || true) ≡ true
 or-true true = refl
 or-true false = refl
@@ -166,6 +170,15 @@ golden {ds} {test} {a} y s h =
       same = λ n. simp (contains-if, contains-insert, i .same n) (without (test n || isWithSubstitute (dayNumber y 5 5) n) _ _ _ _ _ (substituted y n (test n) (eqb (weekdayOf (dayNumber y 5 3)) friday)));
       high = up-to-if _ _ _ b (up-to-if _ _ _ b (up-to-if _ _ _ b (up-to-if _ _ _ b (up-to-insert _ _ b (i .high) (day-order y 5 4 6 (lit≤ tt))) (day-order y 5 2 6 (lit≤ tt))) (omega arith)) (omega arith)) (omega arith);
     }
+
+-- A day but 2 to 6 May is no bridge day.
+pub not-bridge-day : (y n a b : ℕ) → a ≡ dayNumber y 5 2 → b ≡ dayNumber y 5 6 → isBetween a b n ≡ false → false ≡ isBridgeDay y n
+unfolding isBridgeDay
+not-bridge-day y n a b p q e =
+    let week : a ≤ b = omega (arith, p, q, days-on y 5 2 4) in
+    let not-2 : eqb n (dayNumber y 5 2) ≡ false = sym (not-between a b a n (omega arith) week e ∙ ap (eqb n) p) in
+    let not-6 : eqb n (dayNumber y 5 6) ≡ false = sym (not-between a b b n week (omega arith) e ∙ ap (eqb n) q) in
+    simp (not-2, not-6, and-false)
 
 -- Each date with a substitute is later than what was inserted before it.
 before : (m d k e : ℕ) → (ltb m k || eqb m k && ltb d e) ≡ true → (m < k) ⊎ ((m ≡ k) × (d < e))

@@ -9,6 +9,7 @@ ghost use Rattle.days.specs.Days.{contains, isDay};
 ghost use Rattle.days.specs.Requires.{everyYearHas, everyBetween};
 ghost use Rattle.japan.specs.Japan.{isWithSubstitute, isDayWithSubstitute, equinox, isBridgeDay, isHolidayToMarch, isGoldenWeekHoliday, isHolidayFromJuly, getJapanHolidays};
 use days::fixed_day;
+use days::is_between;
 use gregorian::MONDAY;
 use gregorian::SUNDAY;
 use gregorian::THURSDAY;
@@ -102,24 +103,31 @@ fn is_equinox(days: [u32; 11], year: u32, month: u32, n: u32) -> bool
     is_with_substitute(gregorian::day_number(year, month, day), n)
 }
 
-// [tse-golden-week]
+// [tse-golden-week]. Only 2 to 6 May are compared.
 fn is_bridge_day(year: u32, n: u32) -> bool
     requires { ⌜ (1 ≤ year) × (year ≤ lastYear) ⌝ }
     ensures { λ r. ⌜ r ≡ isBridgeDay year n ⌝ }
 {
+    let may_2 = fixed_day(year, 5, 2);
+    let may_6 = fixed_day(year, 5, 6);
+    if !is_between(may_2, may_6, n) {
+        return false;
+    }
     let may_3 = fixed_day(year, 5, 3);
     let may_4 = fixed_day(year, 5, 4);
     let may_5 = fixed_day(year, 5, 5);
-    let may_6 = fixed_day(year, 5, 6);
-    ((gregorian::weekday(may_3) == TUESDAY) & (n == fixed_day(year, 5, 2)))
+    ((gregorian::weekday(may_3) == TUESDAY) & (n == may_2))
         | ((gregorian::weekday(may_5) == THURSDAY) & (n == may_6))
         | ((gregorian::weekday(may_4) == SUNDAY) & (n == may_6))
 }
 
-// The 2nd Monday of January.
+// The 2nd Monday of January. It and the next three are not computed on another weekday.
 fn is_coming_of_age_day(year: u32, n: u32) -> bool
     ensures { λ r. ⌜ r ≡ isDay (nthWeekdayOfMonth year 1 monday 2) n ⌝ }
 {
+    if gregorian::weekday(n) != MONDAY {
+        return false;
+    }
     let OptionalDay::Day(coming_of_age_day) = nth_weekday_of_month(year, 1, MONDAY, 2) else {
         return false;
     };
@@ -130,6 +138,9 @@ fn is_coming_of_age_day(year: u32, n: u32) -> bool
 fn is_marine_day(year: u32, n: u32) -> bool
     ensures { λ r. ⌜ r ≡ isDay (nthWeekdayOfMonth year 7 monday 3) n ⌝ }
 {
+    if gregorian::weekday(n) != MONDAY {
+        return false;
+    }
     let OptionalDay::Day(marine_day) = nth_weekday_of_month(year, 7, MONDAY, 3) else {
         return false;
     };
@@ -140,6 +151,9 @@ fn is_marine_day(year: u32, n: u32) -> bool
 fn is_respect_for_aged_day(year: u32, n: u32) -> bool
     ensures { λ r. ⌜ r ≡ isDay (nthWeekdayOfMonth year 9 monday 3) n ⌝ }
 {
+    if gregorian::weekday(n) != MONDAY {
+        return false;
+    }
     let OptionalDay::Day(respect_for_aged_day) = nth_weekday_of_month(year, 9, MONDAY, 3) else {
         return false;
     };
@@ -150,6 +164,9 @@ fn is_respect_for_aged_day(year: u32, n: u32) -> bool
 fn is_health_and_sports_day(year: u32, n: u32) -> bool
     ensures { λ r. ⌜ r ≡ isDay (nthWeekdayOfMonth year 10 monday 2) n ⌝ }
 {
+    if gregorian::weekday(n) != MONDAY {
+        return false;
+    }
     let OptionalDay::Day(sports_day) = nth_weekday_of_month(year, 10, MONDAY, 2) else {
         return false;
     };

@@ -1,8 +1,8 @@
 -- The holidays of the UK as the code decides them.
 -- Assumes nothing.
-use Prim.Native.Nat.{ℕ, _+_}
+use Prim.Native.Nat.{ℕ, _+_, _≤_}
 use mathlib.Core.Path.{_≡_, refl, ap, sym, _∙_}
-use mathlib.Core.Bool.{Bool, true, false, _||_}
+use mathlib.Core.Bool.{Bool, true, false, cond, _||_}
 use mathlib.Core.List.{List}
 use lib.Dec.{eqb, lit≤}
 use native.Mathlib.Omega.{arith}
@@ -12,9 +12,9 @@ use Rattle.gregorian.proofs.Laws.{days-on}
 use Rattle.gregorian.proofs.Weekdays.{weekday-after}
 use Rattle.utils.specs.Weekday.{nthWeekdayOfMonth, lastWeekdayOfMonth}
 use Rattle.utils.specs.Easter.{calculateGoodFriday, calculateEasterMonday}
-use Rattle.days.specs.Days.{contains, insert, isDay, adjustForWeekend}
+use Rattle.days.specs.Days.{contains, insert, isDay, isBetween, adjustForWeekend}
 use Rattle.markets.specs.Uk.{addBoxingDay, isOneOfTwo, isChristmasOrBoxingDay, getUkHolidays}
-use Rattle.days.proofs.DayLaws.{contains-none, contains-insert, contains-day, on-key, on-weekday}
+use Rattle.days.proofs.DayLaws.{or-assoc, contains-none, contains-insert, contains-day, not-between, on-key, on-weekday}
 
 -- The arms of the code, one of a weekday k, and the last.
 pub christmas-on : (k y n d w : ℕ) → w ≡ k → w ≡ weekdayOf d → d ≡ dayNumber y 12 25 → isOneOfTwo n d k ≡ isChristmasOrBoxingDay y n
@@ -24,6 +24,25 @@ christmas-on k y n d w e f g = ap (isOneOfTwo n d) (sym e ∙ f) ∙ ap (λ (x :
 pub christmas-else : (y n d : ℕ) → d ≡ dayNumber y 12 25 → (weekdayOf d ≡ friday → ⊥) → (weekdayOf d ≡ saturday → ⊥) → (weekdayOf d ≡ sunday → ⊥) → (eqb n d || eqb n (d + 1)) ≡ isChristmasOrBoxingDay y n
 christmas-else y n d g p q r =
     (simp (ne-eqb (weekdayOf d) friday p, ne-eqb (weekdayOf d) saturday q, ne-eqb (weekdayOf d) sunday r)) ∙ christmas-on (weekdayOf d) y n d _ refl refl g
+
+-- A day but 25 to 28 December is none of the two.
+pub one-of-two-away : (y n d : ℕ) → isBetween d (d + 3) n ≡ false → d ≡ dayNumber y 12 25 → false ≡ isChristmasOrBoxingDay y n
+unfolding isChristmasOrBoxingDay
+one-of-two-away y n d e g =
+    by (eqb (weekdayOf d) friday) (eqb (weekdayOf d) saturday) (eqb (weekdayOf d) sunday)
+    ∙ ap (λ (x : ℕ). isOneOfTwo n x (weekdayOf x)) g
+  where
+    is-not : (i : ℕ) → d ≤ i → i ≤ d + 3 → false ≡ eqb n i
+    is-not i l u = not-between d (d + 3) i n l u e
+
+    neither : (i k : ℕ) → (d ≤ i) × (i ≤ d + 3) → (d ≤ k) × (k ≤ d + 3) → false ≡ (eqb n i || eqb n k)
+    neither i k p q = λ j. is-not i (p .0) (p .1) j || is-not k (q .0) (q .1) j
+
+    by : (p q r : Bool) → false ≡ cond p (eqb n d || eqb n (d + 3)) (cond q (eqb n (d + 2) || eqb n (d + 3)) (cond r (eqb n (d + 1) || eqb n (d + 2)) (eqb n d || eqb n (d + 1))))
+    by true q r = neither d (d + 3) (omega arith) (omega arith)
+    by false true r = neither (d + 2) (d + 3) (omega arith) (omega arith)
+    by false false true = neither (d + 1) (d + 2) (omega arith) (omega arith)
+    by false false false = neither d (d + 1) (omega arith) (omega arith)
 
 -- Christmas Day is inserted twice, and then Boxing Day.
 twice : (h a b : Bool) → (h || a || a || b) ≡ (h || (a || b))
@@ -60,6 +79,6 @@ two-days-of ds y n false false false ep eq er =
     let b = ap (λ (i : ℕ). adjustForWeekend i) (d 1) ∙ boxing-stays _ (eqb-false _ friday ep) (eqb-false _ saturday eq) in
     simp (ep, eq, er) (two-days ds _ _ _ (dayNumber y 12 25) (dayNumber y 12 25 + 1) n (stays _ (eqb-false _ saturday eq) (eqb-false _ sunday er)) refl b)
 
-pub uk-contains : (y n : ℕ) → contains (getUkHolidays y) n ≡ (eqb n (adjustForWeekend (dayNumber y 1 1)) || isDay (calculateGoodFriday y) n || isDay (calculateEasterMonday y) n || isDay (nthWeekdayOfMonth y 5 monday 1) n || isDay (lastWeekdayOfMonth y 5 monday) n || isDay (lastWeekdayOfMonth y 8 monday) n || isChristmasOrBoxingDay y n)
+pub uk-contains : (y n : ℕ) → contains (getUkHolidays y) n ≡ (eqb n (adjustForWeekend (dayNumber y 1 1)) || isDay (calculateGoodFriday y) n || isDay (calculateEasterMonday y) n || (isDay (nthWeekdayOfMonth y 5 monday 1) n || isDay (lastWeekdayOfMonth y 5 monday) n || isDay (lastWeekdayOfMonth y 8 monday) n) || isChristmasOrBoxingDay y n)
 unfolding getUkHolidays
-uk-contains y n = two-days-of _ y n _ _ _ refl refl refl ∙ simp (contains-day, contains-insert, contains-none)
+uk-contains y n = two-days-of _ y n _ _ _ refl refl refl ∙ simp (or-assoc, contains-day, contains-insert, contains-none)

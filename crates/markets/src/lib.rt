@@ -6,7 +6,7 @@ pub mod us;
 
 ghost use mathlib.Core.Path.{_≡_};
 ghost use Prim.Native.Nat.{_≤_};
-ghost use Rattle.gregorian.specs.Calendar.{lastDay};
+ghost use Rattle.gregorian.specs.Calendar.{lastDay, dateOf};
 ghost use Rattle.markets.specs.Markets.{isWeekend, isHoliday, isTradingDay};
 use canada::holidays::is_canada_holiday;
 use gregorian::SATURDAY;
@@ -35,12 +35,11 @@ pub fn is_weekend(n: u32) -> bool
     (weekday == SATURDAY) | (weekday == SUNDAY)
 }
 
-// [is-holiday]: no code above 4 has holidays.
-pub fn is_holiday(market: u32, n: u32) -> bool
-    requires { ⌜ (1 ≤ n) × (n ≤ lastDay) ⌝ }
+// [is-holiday]: no code above 4 has holidays. The year is that of day n.
+pub fn is_holiday(market: u32, year: u32, n: u32) -> bool
+    requires { ⌜ (1 ≤ n) × (n ≤ lastDay) × (year ≡ dateOf n .year) ⌝ }
     ensures { λ r. ⌜ r ≡ isHoliday market n ⌝ }
 {
-    let year = gregorian::year_of(n);
     match market {
         NYSE | NASDAQ => is_us_holiday(year, n),
         LSE => is_uk_holiday(year, n),
@@ -50,10 +49,10 @@ pub fn is_holiday(market: u32, n: u32) -> bool
     }
 }
 
-// [trading-day]
-pub fn is_trading_day(market: u32, n: u32) -> bool
-    requires { ⌜ (1 ≤ n) × (n ≤ lastDay) ⌝ }
+// [trading-day]. The year is that of day n.
+pub fn is_trading_day(market: u32, year: u32, n: u32) -> bool
+    requires { ⌜ (1 ≤ n) × (n ≤ lastDay) × (year ≡ dateOf n .year) ⌝ }
     ensures { λ r. ⌜ r ≡ isTradingDay market n ⌝ }
 {
-    !is_weekend(n) && !is_holiday(market, n)
+    !is_weekend(n) && !is_holiday(market, year, n)
 }

@@ -18,7 +18,7 @@ pub fn next_trading_day(market: u32, n: u32) -> OptionalDay
     let mut next = n;
     while next < LAST_DAY {
         next += 1;
-        if is_trading_day(market, next) {
+        if is_trading_day(market, gregorian::year_of(next), next) {
             return OptionalDay::Day(next);
         }
     }
@@ -33,7 +33,7 @@ pub fn previous_trading_day(market: u32, n: u32) -> OptionalDay
     let mut previous = n;
     while FIRST_DAY < previous {
         previous -= 1;
-        if is_trading_day(market, previous) {
+        if is_trading_day(market, gregorian::year_of(previous), previous) {
             return OptionalDay::Day(previous);
         }
     }

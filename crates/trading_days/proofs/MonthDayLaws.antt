@@ -8,8 +8,8 @@ use lib.ListN.{length, take, set, List·getD-eq-default}
 use lib.Seq.{take-suc-set, append-snoc}
 use native.Mathlib.Decide.{decLe}
 use native.Mathlib.Omega.{arith}
-use Rattle.gregorian.specs.Calendar.{lastDay, leapDay, monthLengths, monthLength, isDate, dayNumber}
-use Rattle.gregorian.proofs.Laws.{days-on, is-date, date-by, number-range}
+use Rattle.gregorian.specs.Calendar.{lastDay, leapDay, monthLengths, monthLength, isDate, dayNumber, dateOf}
+use Rattle.gregorian.proofs.Laws.{days-on, is-date, date-by, number-range, year-of-number}
 use Rattle.gregorian.proofs.Formulas.{month-high}
 use Rattle.markets.specs.Markets.{isTradingDay}
 use Rattle.ranges.specs.Ranges.{daysFrom, days, filter, Every, tradingDays}
@@ -25,11 +25,13 @@ day-of-month y m d n e h =
     omega (arith, days-on y m 1 (d - 1), f)
 
 -- It is a day of the years.
-pub month-in-years : (y m d : ℕ) → isDate y m 1 ≡ true → 1 ≤ d → d ≤ monthLength y m → (1 ≤ dayNumber y m d) × (dayNumber y m d ≤ lastDay)
+pub month-in-years : (y m d : ℕ) → isDate y m 1 ≡ true → 1 ≤ d → d ≤ monthLength y m → (1 ≤ dayNumber y m d) × (dayNumber y m d ≤ lastDay) × (y ≡ dateOf (dayNumber y m d) .year)
 month-in-years y m d h l k =
     let g = is-date y m 1 h in
     let e = g .exists in
-    number-range y m d (date-by y m d (e .y-low, g .y-high) (e .m-low, e .m-high) (l, k))
+    let is = date-by y m d (e .y-low, g .y-high) (e .m-low, e .m-high) (l, k) in
+    let r = number-range y m d is in
+    (r .0, r .1, year-of-number y m d is)
 
 -- The first k days of the array, and then those from a to b that pass: day a is looked at; and none is left.
 module _ (p : ℕ → Bool) (l : List ℕ) (k a b : ℕ) where

@@ -27,7 +27,7 @@ pub fn count(market: u32, first: u32, last: u32) -> u32
     let mut count = 0;
     let mut day = first;
     while day <= last {
-        if is_trading_day(market, day) {
+        if is_trading_day(market, gregorian::year_of(day), day) {
             count += 1;
         }
         day += 1;
@@ -46,7 +46,7 @@ pub fn month_days(market: u32, year: u32, month: u32) -> MonthDays
     let mut count = 0;
     let mut day = 1;
     while day <= length {
-        if is_trading_day(market, first + day - 1) {
+        if is_trading_day(market, year, first + day - 1) {
             days[count] = day as u8;
             count += 1;
         }

@@ -155,7 +155,7 @@ pub record LastWeekday (y m w t : ℕ) : Type 0 where
   pub to-last : t ≤ dayNumber y m (monthLength y m)
   pub greatest : (u : ℕ) → t < u → u ≤ dayNumber y m (monthLength y m) → weekdayOf u ≡ w → ⊥
 
-last-is : (w n : ℕ) → w ≤ 6 → 6 ≤ n → (weekdayOf (lastUpTo w n) ≡ w) × ((n ≤ lastUpTo w n + 6) × (lastUpTo w n ≤ n))
+pub last-is : (w n : ℕ) → w ≤ 6 → 6 ≤ n → (weekdayOf (lastUpTo w n) ≡ w) × ((n ≤ lastUpTo w n + 6) × (lastUpTo w n ≤ n))
 unfolding weekdayOf
 last-is w n h l =
     let e = last-up-to w n h l in

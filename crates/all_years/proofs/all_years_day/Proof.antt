@@ -2,20 +2,27 @@
 use mathlib.Core.Path.{sym, ap, _∙_, subst}
 use mathlib.Core.Bool.{true}
 use borrow.Author.Needs.{needs}
+use Rattle.utils.specs.declared.OptionalDay.the-variants.{Day}
 use Rattle.utils.specs.Weekday.{InYears}
 use Rattle.all_years.specs.Answers.{dayAnswer}
 use Rattle.all_years.proofs.all_years_day.Statement.{statement}
 use Rattle.all_years.proofs.all_years_day.Tie as tie
 
+in-years : (c : tie.After-n) → InYears (Day (c .n .given .0 .0))
+in-years c = subst InYears (c .n .given .1) (c .before .before .known-day .ensures .1)
+
+year-of-requires : tie.Need-year-of-requires
+year-of-requires c κs = in-years (c .before)
+
 is-holiday-requires : tie.Need-is-holiday-requires
-is-holiday-requires c κs = subst InYears (c .before .n .given .1) (c .before .before .before .known-day .ensures .1)
+is-holiday-requires c κs = let r = in-years (c .before .before) in (r .0, r .1, c .year-of .ensures .0)
 
 is-trading-day-requires : tie.Need-is-trading-day-requires
-is-trading-day-requires c κs = subst InYears (c .before .before .n .given .1) (c .before .before .before .before .known-day .ensures .1)
+is-trading-day-requires c κs = let r = in-years (c .before .before .before) in (r .0, r .1, c .before .year-of .ensures .0)
 
 returns : tie.Need-returns
 returns c =
-    let s = c .before .before .before in
+    let s = c .before .before .before .before in
     (λ j. record { known = true; holiday = c .before .is-holiday .ensures j; trades = c .is-trading-day .ensures j })
     ∙ ap (dayAnswer (s .before .before .before .args .market)) (sym (s .n .given .1) ∙ s .before .before .known-day .ensures .0)
 
@@ -25,4 +32,4 @@ returns-2 c = ap (dayAnswer (c .before .before .before .args .market)) (sym (c .
 pub all-years-day-spec : {M : Type 1} → statement M
 all-years-day-spec =
     tie.close
-    (tie.spec (search needs) (search needs) is-holiday-requires is-trading-day-requires (search needs) returns returns-2)
+    (tie.spec (search needs) (search needs) year-of-requires is-holiday-requires is-trading-day-requires (search needs) returns returns-2)

@@ -1,14 +1,14 @@
 -- `days::is_around_easter` meets its contract: both ends.
-use mathlib.Core.Bool.{_&&_}
-use lib.Dec.{leb}
+use mathlib.Core.Path.{_∙_}
 use borrow.Author.Needs.{needs}
+use Rattle.days.specs.Days.{isBetween}
 use Rattle.days.proofs.is_around_easter.Statement.{statement}
 use Rattle.days.proofs.is_around_easter.Tie as tie
 
 returns : tie.Need-returns
 returns c =
-    let n = c .before .before .args .n in
-    λ j. leb (c .before .fixed-day .ensures .0 j) n && leb n (c .fixed-day2 .ensures .0 j)
+    let s = c .before in
+    c .is-between .ensures ∙ (λ j. isBetween (s .before .fixed-day .ensures .0 j) (s .fixed-day2 .ensures .0 j) (s .before .before .args .n))
 
 pub is-around-easter-spec : {M : Type 1} → statement M
-is-around-easter-spec = tie.close (tie.spec (λ c κs. search needs) (λ c κs. search needs) returns)
+is-around-easter-spec = tie.close (tie.spec (λ c κs. search needs) (λ c κs. search needs) (search needs) returns)

@@ -2,9 +2,11 @@
 use mathlib.Core.Path.{_≡_, ap}
 use mathlib.Core.Bool.{true, _&&_}
 use lib.Dec.{leb}
+use native.Mathlib.Omega.{arith}
 use borrow.Author.Tests.{lt-leb, le-leb}
 use borrow.Author.Needs.{needs}
-use Rattle.gregorian.specs.Calendar.{lastYear, isDate}
+use Rattle.gregorian.specs.Calendar.{monthLength, lastYear, isDate}
+use Rattle.gregorian.proofs.Laws.{month-low}
 use Rattle.gregorian.proofs.is_date.Statement.{statement}
 use Rattle.gregorian.proofs.is_date.Tie as tie
 
@@ -38,10 +40,17 @@ returns-5 c = simp (month-in (c .before), lt-leb _ _ (c .if5 .taken))
 returns-6 : tie.Need-returns-6
 unfolding isDate
 returns-6 c =
-    simp (month-in (c .before .before), le-leb _ _ (c .before .if5 .left))
-    (ap (leb (c .before .before .before .before .before .before .args .day)) (c .days-in-month .ensures))
+    let a = c .before .before .before .before .before .before .args in
+    let length = month-low (a .year) (a .month) (omega arith) (omega arith) in
+    simp (month-in (c .before .before), le-leb _ _ (c .before .if5 .left), le-leb (a .day) (monthLength (a .year) (a .month)) (omega (arith, length)))
+
+returns-7 : tie.Need-returns-7
+unfolding isDate
+returns-7 c =
+    simp (month-in (c .before .before .before), le-leb _ _ (c .before .before .if5 .left))
+    (ap (leb (c .before .before .before .before .before .before .before .args .day)) (c .days-in-month .ensures))
 
 pub is-date-spec : {M : Type 1} → statement M
 is-date-spec =
     tie.close
-    (tie.spec returns returns-2 returns-3 returns-4 returns-5 (search needs) returns-6)
+    (tie.spec returns returns-2 returns-3 returns-4 returns-5 returns-6 (search needs) returns-7)

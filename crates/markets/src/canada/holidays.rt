@@ -1,13 +1,16 @@
 // The holidays of TSX, as src/markets/canada/holidays.rs has them: docs/SCOPE.md [tsx-holidays].
 ghost use mathlib.Core.Path.{_≡_};
+ghost use mathlib.Core.Bool.{_||_};
 ghost use Prim.Native.Nat.{_≤_};
+ghost use lib.Dec.{eqb};
 ghost use Rattle.gregorian.specs.Calendar.{monday, lastYear};
 ghost use Rattle.utils.specs.Weekday.{nthWeekdayOfMonth};
 ghost use Rattle.days.specs.Days.{contains, isDay};
 ghost use Rattle.markets.specs.Canada.{familyDay, victoriaDay, boxingDay, getCanadaHolidays};
 use days::fixed_day;
+use days::is_between;
 use days::is_good_friday;
-use days::observed;
+use days::is_observed;
 use gregorian::MONDAY;
 use gregorian::SATURDAY;
 use gregorian::SUNDAY;
@@ -19,15 +22,26 @@ pub fn is_canada_holiday(year: u32, n: u32) -> bool
     requires { ⌜ (1 ≤ year) × (year ≤ lastYear) ⌝ }
     ensures { λ r. ⌜ r ≡ contains (getCanadaHolidays year) n ⌝ }
 {
-    (n == observed(year, 1, 1))
-        | is_family_day(year, n)
+    is_observed(year, 1, 1, n)
+        | is_monday_holiday(year, n)
         | is_good_friday(year, n)
+        | is_observed(year, 7, 1, n)
+        | is_observed(year, 12, 25, n)
+        | is_boxing_day(year, n)
+}
+
+// Those that are always on a Monday; on another day none of them is computed.
+fn is_monday_holiday(year: u32, n: u32) -> bool
+    requires { ⌜ (1 ≤ year) × (year ≤ lastYear) ⌝ }
+    ensures { λ r. ⌜ r ≡ (isDay (familyDay year) n || eqb n (victoriaDay year) || isDay (nthWeekdayOfMonth year 9 monday 1) n || isDay (nthWeekdayOfMonth year 10 monday 2) n) ⌝ }
+{
+    if gregorian::weekday(n) != MONDAY {
+        return false;
+    }
+    is_family_day(year, n)
         | (n == victoria_day(year))
-        | (n == observed(year, 7, 1))
         | is_labour_day(year, n)
         | is_thanksgiving(year, n)
-        | (n == observed(year, 12, 25))
-        | (n == boxing_day(year))
 }
 
 // The 3rd Monday of February, from 2008 on.
@@ -82,4 +96,16 @@ fn boxing_day(year: u32) -> u32
         SUNDAY => boxing + 2,
         _ => boxing,
     }
+}
+
+// Only 26 December and the two days after it are compared.
+fn is_boxing_day(year: u32, n: u32) -> bool
+    requires { ⌜ (1 ≤ year) × (year ≤ lastYear) ⌝ }
+    ensures { λ r. ⌜ r ≡ eqb n (boxingDay year) ⌝ }
+{
+    let boxing = fixed_day(year, 12, 26);
+    if !is_between(boxing, boxing + 2, n) {
+        return false;
+    }
+    n == boxing_day(year)
 }

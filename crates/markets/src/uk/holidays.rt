@@ -1,5 +1,6 @@
 // The holidays of LSE, as src/markets/uk/holidays.rs has them: docs/SCOPE.md [lse-holidays].
 ghost use mathlib.Core.Path.{_≡_};
+ghost use mathlib.Core.Bool.{_||_};
 ghost use Prim.Native.Nat.{_≤_};
 ghost use Rattle.gregorian.specs.Calendar.{monday, lastYear};
 ghost use Rattle.utils.specs.Weekday.{nthWeekdayOfMonth, lastWeekdayOfMonth};
@@ -8,8 +9,9 @@ ghost use Rattle.days.specs.Days.{contains, isDay};
 ghost use Rattle.markets.specs.Uk.{isChristmasOrBoxingDay, getUkHolidays};
 use days::fixed_day;
 use days::is_around_easter;
+use days::is_between;
 use days::is_good_friday;
-use days::observed;
+use days::is_observed;
 use gregorian::FRIDAY;
 use gregorian::MONDAY;
 use gregorian::SATURDAY;
@@ -24,13 +26,23 @@ pub fn is_uk_holiday(year: u32, n: u32) -> bool
     requires { ⌜ (1 ≤ year) × (year ≤ lastYear) ⌝ }
     ensures { λ r. ⌜ r ≡ contains (getUkHolidays year) n ⌝ }
 {
-    (n == observed(year, 1, 1))
+    is_observed(year, 1, 1, n)
         | is_good_friday(year, n)
         | is_easter_monday(year, n)
-        | is_early_may_bank_holiday(year, n)
+        | is_bank_holiday(year, n)
+        | is_christmas_or_boxing_day(year, n)
+}
+
+// Those of May and August, always on a Monday; on another day none of them is computed.
+fn is_bank_holiday(year: u32, n: u32) -> bool
+    ensures { λ r. ⌜ r ≡ (isDay (nthWeekdayOfMonth year 5 monday 1) n || isDay (lastWeekdayOfMonth year 5 monday) n || isDay (lastWeekdayOfMonth year 8 monday) n) ⌝ }
+{
+    if gregorian::weekday(n) != MONDAY {
+        return false;
+    }
+    is_early_may_bank_holiday(year, n)
         | is_spring_bank_holiday(year, n)
         | is_summer_bank_holiday(year, n)
-        | is_christmas_or_boxing_day(year, n)
 }
 
 fn is_easter_monday(year: u32, n: u32) -> bool
@@ -77,11 +89,15 @@ fn is_summer_bank_holiday(year: u32, n: u32) -> bool
 }
 
 // Two days: 25 and 28 December if Christmas Day is a Friday, 27 and 28 if a Saturday, 26 and 27 if a Sunday, else 25 and 26.
+// Only these four are compared.
 fn is_christmas_or_boxing_day(year: u32, n: u32) -> bool
     requires { ⌜ (1 ≤ year) × (year ≤ lastYear) ⌝ }
     ensures { λ r. ⌜ r ≡ isChristmasOrBoxingDay year n ⌝ }
 {
     let christmas = fixed_day(year, 12, 25);
+    if !is_between(christmas, christmas + 3, n) {
+        return false;
+    }
     match gregorian::weekday(christmas) {
         FRIDAY => (n == christmas) | (n == christmas + 3),
         SATURDAY => (n == christmas + 2) | (n == christmas + 3),

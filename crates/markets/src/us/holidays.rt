@@ -1,14 +1,15 @@
 // The holidays of NYSE and NASDAQ, as src/markets/us/holidays.rs has them: docs/SCOPE.md [us-holidays].
 ghost use mathlib.Core.Path.{_≡_};
-ghost use mathlib.Core.Bool.{_&&_};
+ghost use mathlib.Core.Bool.{_&&_, _||_};
 ghost use Prim.Native.Nat.{_≤_};
 ghost use lib.Dec.{leb, eqb};
 ghost use Rattle.gregorian.specs.Calendar.{lastYear};
 ghost use Rattle.days.specs.Days.{contains, isDay};
 ghost use Rattle.markets.specs.Us.{newYearsDay, mlkDay, presidentsDay, memorialDay, independenceDay, laborDay, thanksgivingDay, juneteenth, christmasDay, getUsHolidays};
 use days::fixed_day;
+use days::is_between;
 use days::is_good_friday;
-use days::observed;
+use days::is_observed;
 use gregorian::MONDAY;
 use gregorian::SATURDAY;
 use gregorian::SUNDAY;
@@ -22,24 +23,34 @@ pub fn is_us_holiday(year: u32, n: u32) -> bool
     requires { ⌜ (1 ≤ year) × (year ≤ lastYear) ⌝ }
     ensures { λ r. ⌜ r ≡ contains (getUsHolidays year) n ⌝ }
 {
-    (n == new_years_day(year))
-        | (n == independence_day(year))
-        | (n == christmas_day(year))
+    is_new_years_day(year, n)
+        | is_independence_day(year, n)
+        | is_christmas_day(year, n)
         | is_juneteenth(year, n)
-        | is_mlk_day(year, n)
-        | is_presidents_day(year, n)
-        | is_memorial_day(year, n)
-        | is_labor_day(year, n)
+        | is_monday_holiday(year, n)
         | is_thanksgiving_day(year, n)
         | is_good_friday(year, n)
 }
 
-// 1 January, on Monday if on a weekend.
-fn new_years_day(year: u32) -> u32
-    requires { ⌜ (1 ≤ year) × (year ≤ lastYear) ⌝ }
-    ensures { λ r. ⌜ r ≡ newYearsDay year ⌝ }
+// Those that are always on a Monday; on another day none of them is computed.
+fn is_monday_holiday(year: u32, n: u32) -> bool
+    ensures { λ r. ⌜ r ≡ (isDay (mlkDay year) n || isDay (presidentsDay year) n || isDay (memorialDay year) n || isDay (laborDay year) n) ⌝ }
 {
-    observed(year, 1, 1)
+    if gregorian::weekday(n) != MONDAY {
+        return false;
+    }
+    is_mlk_day(year, n)
+        | is_presidents_day(year, n)
+        | is_memorial_day(year, n)
+        | is_labor_day(year, n)
+}
+
+// 1 January, on Monday if on a weekend.
+fn is_new_years_day(year: u32, n: u32) -> bool
+    requires { ⌜ (1 ≤ year) × (year ≤ lastYear) ⌝ }
+    ensures { λ r. ⌜ r ≡ eqb n (newYearsDay year) ⌝ }
+{
+    is_observed(year, 1, 1, n)
 }
 
 // Martin Luther King Jr. Day: the 3rd Monday of January.
@@ -85,6 +96,18 @@ fn independence_day(year: u32) -> u32
     }
 }
 
+// Only 4 July and the days beside it are compared.
+fn is_independence_day(year: u32, n: u32) -> bool
+    requires { ⌜ (1 ≤ year) × (year ≤ lastYear) ⌝ }
+    ensures { λ r. ⌜ r ≡ eqb n (independenceDay year) ⌝ }
+{
+    let july_4 = fixed_day(year, 7, 4);
+    if !is_between(july_4 - 1, july_4 + 1, n) {
+        return false;
+    }
+    n == independence_day(year)
+}
+
 // The 1st Monday of September.
 fn is_labor_day(year: u32, n: u32) -> bool
     ensures { λ r. ⌜ r ≡ isDay (laborDay year) n ⌝ }
@@ -102,9 +125,13 @@ pub fn thanksgiving_day(year: u32) -> OptionalDay
     nth_weekday_of_month(year, 11, THURSDAY, 4)
 }
 
+// On a day but Thursday it is not computed.
 fn is_thanksgiving_day(year: u32, n: u32) -> bool
     ensures { λ r. ⌜ r ≡ isDay (thanksgivingDay year) n ⌝ }
 {
+    if gregorian::weekday(n) != THURSDAY {
+        return false;
+    }
     let OptionalDay::Day(thanksgiving) = thanksgiving_day(year) else {
         return false;
     };
@@ -119,13 +146,13 @@ fn is_juneteenth(year: u32, n: u32) -> bool
     if year < 2021 {
         return false;
     }
-    n == observed(year, 6, 19)
+    is_observed(year, 6, 19, n)
 }
 
 // 25 December, on Monday if on a weekend.
-fn christmas_day(year: u32) -> u32
+fn is_christmas_day(year: u32, n: u32) -> bool
     requires { ⌜ (1 ≤ year) × (year ≤ lastYear) ⌝ }
-    ensures { λ r. ⌜ r ≡ christmasDay year ⌝ }
+    ensures { λ r. ⌜ r ≡ eqb n (christmasDay year) ⌝ }
 {
-    observed(year, 12, 25)
+    is_observed(year, 12, 25, n)
 }

@@ -23,12 +23,15 @@ abbrev μ-loop : tie.MeasureT-loop
 loop-holds : tie.Need-loop-holds Inv-loop μ-loop
 loop-holds c = (omega arith, omega arith, refl)
 
+year-of-requires : tie.Need-year-of-requires Inv-loop μ-loop
+year-of-requires c κs = (omega arith, omega arith)
+
 is-trading-day-requires : tie.Need-is-trading-day-requires Inv-loop μ-loop
-is-trading-day-requires c κs = (omega arith, omega arith)
+is-trading-day-requires c κs = (omega arith, omega arith, c .year-of .ensures .0)
 
 loop-again : tie.Need-loop-again Inv-loop μ-loop
 loop-again c =
-    let s = c .before .before .before in
+    let s = c .before .before .before .before in
     let trades = isTradingDay (s .before .args .market) in
     let last = s .before .args .last in
     let day = s .loop .day in
@@ -48,4 +51,4 @@ returns c =
 pub count-spec : {M : Type 1} → statement M
 count-spec =
     tie.close
-    (tie.spec Inv-loop μ-loop loop-holds is-trading-day-requires (search needs) (search needs) (search needs) loop-again returns)
+    (tie.spec Inv-loop μ-loop loop-holds year-of-requires is-trading-day-requires (search needs) (search needs) (search needs) loop-again returns)

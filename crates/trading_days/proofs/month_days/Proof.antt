@@ -7,7 +7,7 @@ use mathlib.Core.Logic.{⊎-elim}
 use lib.ListN.{length, take, set, length-set}
 use native.Mathlib.Omega.{arith}
 use borrow.Author.Needs.{needs}
-use Rattle.gregorian.specs.Calendar.{lastDay, dayNumber}
+use Rattle.gregorian.specs.Calendar.{lastDay, dayNumber, dateOf}
 use Rattle.gregorian.proofs.Laws.{is-date}
 use Rattle.gregorian.proofs.Formulas.{month-high}
 use Rattle.markets.specs.Markets.{isTradingDay}
@@ -35,7 +35,7 @@ asked : (c : tie.In-loop Inv-loop μ-loop)
 asked c = let s = c .before .before in day-of-month _ _ _ _ (s .day-number .ensures) (omega arith)
 
 in-years : (c : tie.In-loop Inv-loop μ-loop)
-    → (let a = c .before .before .before .before .args in let n = dayNumber (a .year) (a .month) (c .before .loop .day) in (1 ≤ n) × (n ≤ lastDay))
+    → (let a = c .before .before .before .before .args in let n = dayNumber (a .year) (a .month) (c .before .loop .day) in (1 ≤ n) × (n ≤ lastDay) × (a .year ≡ dateOf n .year))
 in-years c = let s = c .before .before .before in month-in-years _ _ _ (s .before .pre) (omega arith) (omega (arith, s .days-in-month .ensures))
 
 day-number-requires : tie.Need-day-number-requires Inv-loop μ-loop
@@ -54,10 +54,13 @@ loop-holds c =
     )
 
 add-is-trading-day : tie.Need-add-is-trading-day Inv-loop μ-loop
-add-is-trading-day c = omega (arith, asked c, in-years c)
+add-is-trading-day c = omega (arith, asked c, in-years c .1)
 
 is-trading-day-requires : tie.Need-is-trading-day-requires Inv-loop μ-loop
-is-trading-day-requires c κs = omega (arith, asked c, in-years c)
+is-trading-day-requires c κs =
+    let i = in-years c in
+    let n = asked c in
+    (omega (arith, n, i .0), omega (arith, n, i .1), i .2 ∙ ap (λ (k : ℕ). dateOf k .year) (sym n))
 
 loop-again : tie.Need-loop-again Inv-loop μ-loop
 loop-again c =

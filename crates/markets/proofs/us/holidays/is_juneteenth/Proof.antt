@@ -1,7 +1,4 @@
 -- `markets::us::holidays::is_juneteenth` meets its contract: before 2021, and from then on.
-use Prim.Native.Nat.{ℕ}
-use mathlib.Core.Path.{ap}
-use lib.Dec.{eqb}
 use native.Mathlib.Omega.{arith}
 use borrow.Author.Tests.{lt-leb, le-leb}
 use borrow.Author.Needs.{needs}
@@ -14,7 +11,7 @@ returns c = simp (lt-leb 2021 (c .before .args .year) (omega arith))
 returns-2 : tie.Need-returns-2
 returns-2 c =
     let s = c .before .before in
-    simp (le-leb 2021 (s .args .year) (omega arith)) (ap (λ (d : ℕ). eqb (s .args .n) d) (c .observed .ensures))
+    simp (le-leb 2021 (s .args .year) (omega arith)) (c .is-observed .ensures)
 
 pub is-juneteenth-spec : {M : Type 1} → statement M
 is-juneteenth-spec =

@@ -1,0 +1,23 @@
+-- `markets::uk::holidays::is_bank_holiday` meets its contract: no other day, and on a Monday the tests.
+use mathlib.Core.Path.{_≡_, _∙_}
+use mathlib.Core.Bool.{_||_}
+use borrow.Author.Needs.{needs}
+use Rattle.gregorian.specs.Calendar.{monday, weekdayOf}
+use Rattle.days.proofs.DayLaws.{not-nth, not-last}
+use Rattle.markets.proofs.uk.holidays.is_bank_holiday.Statement.{statement}
+use Rattle.markets.proofs.uk.holidays.is_bank_holiday.Tie as tie
+
+returns : tie.Need-returns
+returns c =
+    let y = c .before .before .args .year in
+    let n = c .before .before .args .n in
+    let other : weekdayOf n ≡ monday → ⊥ = λ e. c .if1 .taken (c .before .weekday .ensures ∙ e) in
+    λ j. not-nth y 5 monday 1 n other j || not-last y 5 monday n other j || not-last y 8 monday n other j
+
+returns-2 : tie.Need-returns-2
+returns-2 c =
+    λ j. c .before .before .is-early-may-bank-holiday .ensures j || c .before .is-spring-bank-holiday .ensures j || c .is-summer-bank-holiday .ensures j
+
+pub is-bank-holiday-spec : {M : Type 1} → statement M
+is-bank-holiday-spec =
+    tie.close (tie.spec (search needs) returns (search needs) (search needs) (search needs) returns-2)
