@@ -4,7 +4,9 @@ pub mod constants;
 pub mod us;
 
 ghost use mathlib.Core.Path.{_≡_};
-ghost use mathlib.Core.Bool.{true};
+ghost use mathlib.Core.Bool.{true, _&&_};
+ghost use lib.Dec.{ltb, leb};
+ghost use Rattle.gregorian.specs.declared.Date.{Date};
 ghost use Rattle.gregorian.specs.Calendar.{isDate};
 ghost use Rattle.schedule.specs.Schedule.{sessionNew, contains, mayContain, isReached};
 ghost use Rattle.schedule.specs.Schedule.{hoursNew, withEarlyClose, isEarlyClose, marketClose, isOpenAt};
@@ -12,6 +14,7 @@ ghost use Rattle.schedule.specs.MarketHours.{regularHours, tradingHours}
 use constants::LSEMarket;
 use constants::TSEMarket;
 use constants::TSXMarket;
+use constants::USMarket;
 use error::CalendarError;
 use gregorian::Date;
 use markets::LSE;
@@ -191,6 +194,26 @@ fn regular_hours(date: Date, start: u32, end: u32) -> TradingHours
         OptionalSession::None,
         OptionalSession::None,
     )
+}
+
+// Whether the time is from the start to before the end.
+fn is_within(start: u32, end: u32, time: u32) -> bool
+    ensures { λ r. ⌜ r ≡ (leb start time && ltb time end) ⌝ }
+{
+    (start <= time) & (time < end)
+}
+
+// [is-open-at] of the market's hours, which are open at the same seconds on every date: the sessions of the US meet, also where an
+// early close is the end of one and the start of the next. The last arm is TSX, as for trading_hours.
+pub fn is_market_open_at(market: u32, time: u32) -> bool
+    ensures { λ r. ⌜ ((date : Date) → r ≡ isOpenAt (tradingHours market date) time) ⌝ }
+{
+    match market {
+        NYSE | NASDAQ => is_within(USMarket::PREMARKET_OPEN, USMarket::AFTERHOURS_CLOSE, time),
+        LSE => is_within(LSEMarket::REGULAR_OPEN, LSEMarket::REGULAR_CLOSE, time),
+        TSE => is_within(TSEMarket::REGULAR_OPEN, TSEMarket::REGULAR_CLOSE, time),
+        _ => is_within(TSXMarket::REGULAR_OPEN, TSXMarket::REGULAR_CLOSE, time),
+    }
 }
 
 // [trading-hours]: callers have checked the code, so the last arm is TSX.
