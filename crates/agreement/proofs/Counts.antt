@@ -14,7 +14,7 @@ use Rattle.ranges.specs.Agreement.{Splits, countOf}
 use Rattle.ranges.proofs.Counts.{count-none, splits-order}
 use Rattle.longest_run.proofs.Markets.{bounds}
 use Rattle.error.specs.declared.CountResult.{CountResult}
-use Rattle.calendar.proofs.CountLaws.{count-of-dates}
+use Rattle.range_calls.proofs.CountLaws.{count-of-dates}
 use Rattle.agreement.specs.CallsAgree.{countCall, Part, partsOf, SplitDates}
 use Rattle.agreement.proofs.Dates.{low, high, year-from, year-to}
 

@@ -24,9 +24,9 @@ use Rattle.calendar.specs.Calls.{isSupported}
 use Rattle.trading_days.specs.Month.{monthList}
 use Rattle.trading_days.proofs.MonthDayLaws.{month-list}
 use Rattle.buffers.proofs.BufferLaws.{overwrite-start}
-use Rattle.calendar.specs.RangeCalls.{finalBuffer}
+use Rattle.range_calls.specs.RangeCalls.{finalBuffer}
 use Rattle.calendar.proofs.CallLaws.{supported-years}
-use Rattle.calendar.proofs.MonthLaws.{month-of-years, written-ok, written-error}
+use Rattle.range_calls.proofs.MonthLaws.{month-of-years, written-ok, written-error}
 use Rattle.agreement.specs.CallsAgree.{Month, monthsFrom, Writes, Reads, datesOf, limitToRange}
 
 -- ---- the months in order

@@ -18,10 +18,10 @@ use Rattle.ranges.specs.Agreement.{Traversal, NonTradingBetween, NextCall, Prev
 use Rattle.ranges.proofs.Lists.{between-length}
 use Rattle.ranges.proofs.Neighbours.{next-in-years, previous-in-years}
 use Rattle.ranges.proofs.Traversals.{traversal-map, traversal-unique}
-use Rattle.calendar.specs.declared.TradingDay.{TradingDay}
-use Rattle.calendar.specs.declared.TradingDayResult.{TradingDayResult}
-use Rattle.calendar.specs.RangeCalls.{distanceOf, tradingDay, tradingDayResult, neighbourResult}
-use Rattle.calendar.proofs.RangeLaws.{to-later, to-earlier, neighbour-of-date}
+use Rattle.range_calls.specs.declared.TradingDay.{TradingDay}
+use Rattle.range_calls.specs.declared.TradingDayResult.{TradingDayResult}
+use Rattle.range_calls.specs.RangeCalls.{distanceOf, tradingDay, tradingDayResult, neighbourResult}
+use Rattle.range_calls.proofs.RangeLaws.{to-later, to-earlier, neighbour-of-date}
 use Rattle.agreement.specs.CallsAgree.{NeighbourAnswer, Next, Previous}
 
 -- a day of years 1 to 9999

@@ -15,9 +15,9 @@ use Rattle.ranges.specs.Ranges.{daysBetween, filter, Every, tradingDays, sumOf,
 use Rattle.ranges.specs.Agreement.{Traversal, NonTradingBetween}
 use Rattle.error.specs.declared.CountResult.{CountResult}
 use Rattle.error.specs.declared.CalendarError.the-variants.{BufferTooSmall}
-use Rattle.calendar.specs.declared.TradingDayResult.{TradingDayResult}
+use Rattle.range_calls.specs.declared.TradingDayResult.{TradingDayResult}
 use Rattle.calendar.specs.Calls.{isSupported}
-use Rattle.calendar.specs.RangeCalls.{nextTradingDayResult, previousTradingDayResult, tradingDaysInMonthResult, tradingDaysInMonthBuffer, countTradingDaysResult}
+use Rattle.range_calls.specs.RangeCalls.{nextTradingDayResult, previousTradingDayResult, tradingDaysInMonthResult, tradingDaysInMonthBuffer, countTradingDaysResult}
 
 -- ---- the range
 

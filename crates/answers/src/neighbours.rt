@@ -2,7 +2,7 @@
 ghost use mathlib.Core.Path.{_≡_};
 ghost use Rattle.answers.specs.Answers.{tradingDayAnswer};
 use crate::flag;
-use calendar::TradingDayResult;
+use range_calls::TradingDayResult;
 use gregorian::Date;
 
 // tc_trading_day_result of the header, [host-answers]: error is 0 and the rest is the answer; or error is a number of [errors], and

@@ -5,9 +5,9 @@ use mathlib.Core.Path.{_≡_, refl, ap, _∙_, subst}
 use mathlib.Core.Bool.{Bool, true, false, cond, not}
 use lib.Dec.{ltb, leb}
 use borrow.Author.Tests.{lt-ltb, le-ltb, leb-true, not-false}
-use Rattle.gregorian.specs.Calendar.{lastDay, isDate, date, dayNumber}
+use Rattle.gregorian.specs.Calendar.{lastDay, isDate, date, dayNumber, dateOf}
 use Rattle.gregorian.proofs.Tests.{and-left, and-right}
-use Rattle.gregorian.proofs.Laws.{number-range}
+use Rattle.gregorian.proofs.Laws.{number-range, year-of-number}
 use Rattle.error.specs.declared.CalendarError.{CalendarError}
 use Rattle.error.specs.declared.CalendarError.the-variants.{UnknownMarket, InvalidDate, TimeOutOfRange, DateOutOfRange}
 use Rattle.calendar.specs.declared.DayResult.{DayResult}
@@ -82,5 +82,9 @@ module _ (market year month day : ℕ) where
     unfolding supportedDay
     supported-day n e = supported-checked (checkedDay market year month day) n e
 
-    pub day-in-years : (n : ℕ) → supportedDay market year month day inRange ≡ DayResult.Ok n → (1 ≤ n) × (n ≤ lastDay)
-    day-in-years n e = checked-in-years n (supported-day n e)
+    pub day-in-years : (n : ℕ) → supportedDay market year month day inRange ≡ DayResult.Ok n → (1 ≤ n) × (n ≤ lastDay) × (year ≡ dateOf n .year)
+    day-in-years n e =
+        let c = supported-day n e in
+        let d = checked-date n c in
+        let r = checked-in-years n c in
+        (r .0, r .1, year-of-number year month day (d .0) ∙ ap (λ (i : ℕ). dateOf i .year) (d .1))

@@ -1,4 +1,1 @@
 pub mod CallLaws
-pub mod RangeLaws
-pub mod MonthLaws
-pub mod CountLaws

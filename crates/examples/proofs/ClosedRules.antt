@@ -20,9 +20,9 @@ use Rattle.ranges.proofs.Lists.{from-split}
 use Rattle.longest_run.specs.MarketAgreement.{longestRun}
 use Rattle.longest_run.proofs.ClosedForms.{closedHolidays, closed-holidays}
 use Rattle.longest_run.proofs.Years.{before, in-year}
-use Rattle.calendar.specs.declared.TradingDayResult.{TradingDayResult}
+use Rattle.range_calls.specs.declared.TradingDayResult.{TradingDayResult}
 use Rattle.calendar.specs.Calls.{isSupported}
-use Rattle.calendar.specs.RangeCalls.{distanceOf, tradingDay, tradingDayResult}
+use Rattle.range_calls.specs.RangeCalls.{distanceOf, tradingDay, tradingDayResult}
 use Rattle.answers.specs.declared.OptionalDate.{OptionalDate}
 use Rattle.answers.specs.Answers.{optionalDate}
 

@@ -12,9 +12,9 @@ use Rattle.error.specs.declared.BoolResult.{BoolResult}
 use Rattle.error.specs.declared.CountResult.{CountResult}
 use Rattle.error.specs.declared.CalendarError.the-variants.{DateOutOfRange}
 use Rattle.error.specs.Errors.{errorFields}
-use Rattle.calendar.specs.declared.TradingDayResult.{TradingDayResult}
+use Rattle.range_calls.specs.declared.TradingDayResult.{TradingDayResult}
 use Rattle.calendar.specs.Calls.{isSupported, tryDay, checkedDay, supportedDay}
-use Rattle.calendar.specs.RangeCalls.{distanceOf}
+use Rattle.range_calls.specs.RangeCalls.{distanceOf}
 use Rattle.answers.specs.declared.BoolAnswer.{BoolAnswer}
 use Rattle.answers.specs.declared.neighbours.TradingDayAnswer.{TradingDayAnswer}
 use Rattle.answers.specs.declared.counts.CountAnswer.{CountAnswer}

@@ -7,7 +7,7 @@ use Rattle.gregorian.specs.Calendar.{date, noDate}
 use Rattle.utils.specs.Easter.{calculateEaster}
 use Rattle.ranges.specs.Ranges.{Every}
 use Rattle.calendar.specs.Calls.{isTradingDayResult, isHolidayResult}
-use Rattle.calendar.specs.RangeCalls.{nextTradingDayResult, countTradingDaysResult}
+use Rattle.range_calls.specs.RangeCalls.{nextTradingDayResult, countTradingDaysResult}
 use Rattle.answers.specs.declared.OptionalDate.{OptionalDate}
 use Rattle.answers.specs.declared.BoolAnswer.{BoolAnswer}
 use Rattle.answers.specs.declared.neighbours.TradingDayAnswer.{TradingDayAnswer}

@@ -12,8 +12,8 @@ use Rattle.error.specs.declared.CalendarError.{CalendarError}
 use Rattle.error.specs.declared.CalendarError.the-variants.{MalformedText, UnknownMarket, InvalidDate, TimeOutOfRange, DateOutOfRange}
 use Rattle.error.specs.declared.CalendarError.the-variants.{InvalidDateCalculation, NoTradingDayFound, BufferTooSmall, InvalidSession, InvalidTime}
 use Rattle.error.specs.Errors.{errorFields, errorNumber}
-use Rattle.calendar.specs.RangeCalls.{writtenResult, finalBuffer}
-use Rattle.calendar.proofs.MonthLaws.{written-ok}
+use Rattle.range_calls.specs.RangeCalls.{writtenResult, finalBuffer}
+use Rattle.range_calls.proofs.MonthLaws.{written-ok}
 use Rattle.answers.specs.declared.counts.CountAnswer.{CountAnswer}
 use Rattle.answers.specs.Answers.{countAnswer}
 use Rattle.request.specs.declared.Request.{Request}

@@ -11,8 +11,8 @@ use Rattle.trading_days.proofs.MonthDayLaws.{list-length}
 use Rattle.error.specs.declared.CountResult.{CountResult}
 use Rattle.error.specs.declared.CalendarError.{CalendarError}
 use Rattle.error.specs.declared.CalendarError.the-variants.{BufferTooSmall}
-use Rattle.calendar.specs.RangeCalls.{writtenResult, finalBuffer, MonthCheck, checkedMonth, tryMonth, tradingDaysInMonthResult, tradingDaysInMonthBuffer}
-use Rattle.calendar.proofs.MonthLaws.{written-ok, written-error, month-result, NoMonthError, month-checked}
+use Rattle.range_calls.specs.RangeCalls.{writtenResult, finalBuffer, MonthCheck, checkedMonth, tryMonth, tradingDaysInMonthResult, tradingDaysInMonthBuffer}
+use Rattle.range_calls.proofs.MonthLaws.{written-ok, written-error, month-result, NoMonthError, month-checked}
 use Rattle.sheet.specs.Sheet.{sheetText, monthSheet}
 use Rattle.sheet.specs.Call.{SheetResult, sheetOfMonth, sheetWritten, sheetBuffer}
 

@@ -4,7 +4,7 @@ use mathlib.Core.List.{List}
 use Rattle.error.specs.declared.CountResult.{CountResult}
 use Rattle.error.specs.declared.CalendarError.{CalendarError}
 use Rattle.error.specs.declared.CalendarError.the-variants.{MalformedText}
-use Rattle.calendar.specs.RangeCalls.{checkedMonth, tryMonth, writtenResult, finalBuffer}
+use Rattle.range_calls.specs.RangeCalls.{checkedMonth, tryMonth, writtenResult, finalBuffer}
 use Rattle.request.specs.declared.Request.{Request}
 use Rattle.request.specs.Request.{readRequest}
 use Rattle.sheet.specs.Sheet.{monthSheet}

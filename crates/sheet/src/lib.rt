@@ -7,7 +7,7 @@ pub use lines::write_line;
 ghost use mathlib.Core.Path.{_≡_};
 ghost use Prim.Native.Nat.{_≤_};
 ghost use lib.ListN.{length};
-ghost use Rattle.calendar.specs.RangeCalls.{writtenResult, finalBuffer};
+ghost use Rattle.range_calls.specs.RangeCalls.{writtenResult, finalBuffer};
 ghost use Rattle.sheet.specs.Sheet.{sheetText};
 ghost use Rattle.sheet.specs.Call.{sheetOfMonth, sheetWritten, sheetBuffer, monthSheetResult, monthSheetBuffer};
 use error::CalendarError;
@@ -35,7 +35,7 @@ fn sheet_of_month(market: u32, year: u32, month: u32, out: &mut [u8]) -> CountRe
         × (now (out .exit) ≡ sheetBuffer (sheetOfMonth market year month) (now (out .entry))) ⌝ }
 {
     let mut days = [0; LONGEST_MONTH];
-    match calendar::counts::trading_days_in_month(market, year, month, &mut days) {
+    match range_calls::counts::trading_days_in_month(market, year, month, &mut days) {
         CountResult::Ok(count) => {
             let n = count as usize;
             write_fitting(market, year, month, &days[0..n], out)

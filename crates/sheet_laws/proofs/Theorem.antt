@@ -19,9 +19,9 @@ use Rattle.buffers.proofs.BufferLaws.{overwrite-start}
 use Rattle.error.specs.declared.CountResult.{CountResult}
 use Rattle.error.specs.declared.CalendarError.the-variants.{BufferTooSmall}
 use Rattle.calendar.specs.Calls.{isSupported}
-use Rattle.calendar.specs.RangeCalls.{writtenResult, finalBuffer, tradingDaysInMonthResult, tradingDaysInMonthBuffer}
+use Rattle.range_calls.specs.RangeCalls.{writtenResult, finalBuffer, tradingDaysInMonthResult, tradingDaysInMonthBuffer}
 use Rattle.calendar.proofs.CallLaws.{supported-years}
-use Rattle.calendar.proofs.MonthLaws.{NoMonthError, no-month-error, written-ok, month-of-years}
+use Rattle.range_calls.proofs.MonthLaws.{NoMonthError, no-month-error, written-ok, month-of-years}
 use Rattle.decimal.specs.Decimal.{decimal, valueOf}
 use Rattle.decimal.proofs.DecimalLaws.{length-positive, length-at-most, decimal-digits, decimal-value, no-leading-zero}
 use Rattle.request.specs.declared.Request.{Request}

@@ -9,7 +9,7 @@ use lib.ListN.{length, take, getD}
 use Rattle.ranges.specs.Ranges.{Every}
 use Rattle.trading_days.specs.Month.{monthList}
 use Rattle.error.specs.declared.CountResult.{CountResult}
-use Rattle.calendar.specs.RangeCalls.{tradingDaysInMonthResult, tradingDaysInMonthBuffer}
+use Rattle.range_calls.specs.RangeCalls.{tradingDaysInMonthResult, tradingDaysInMonthBuffer}
 use Rattle.decimal.specs.Decimal.{valueOf}
 use Rattle.request.specs.declared.Request.{Request}
 use Rattle.request.specs.Text.{ascii}

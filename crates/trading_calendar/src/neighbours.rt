@@ -1,6 +1,6 @@
 // The calls about the neighbouring trading days. Labels in brackets are those of docs/SCOPE.md.
 ghost use mathlib.Core.Path.{_≡_};
-ghost use Rattle.calendar.specs.RangeCalls.{nextTradingDayResult, previousTradingDayResult};
+ghost use Rattle.range_calls.specs.RangeCalls.{nextTradingDayResult, previousTradingDayResult};
 ghost use Rattle.answers.specs.Answers.{tradingDayAnswer};
 use answers::neighbours::TradingDayAnswer;
 use answers::neighbours::trading_day_answer;
@@ -15,7 +15,7 @@ pub extern "C" fn tc_next_trading_day(
 ) -> TradingDayAnswer
     ensures { λ r. ⌜ r ≡ tradingDayAnswer (nextTradingDayResult market year month day) ⌝ }
 {
-    trading_day_answer(calendar::next_trading_day(market, year, month, day))
+    trading_day_answer(range_calls::next_trading_day(market, year, month, day))
 }
 
 // [previous]: in any year; or the first of errors 8, 5 and 6 that applies.
@@ -28,5 +28,5 @@ pub extern "C" fn tc_previous_trading_day(
 ) -> TradingDayAnswer
     ensures { λ r. ⌜ r ≡ tradingDayAnswer (previousTradingDayResult market year month day) ⌝ }
 {
-    trading_day_answer(calendar::previous_trading_day(market, year, month, day))
+    trading_day_answer(range_calls::previous_trading_day(market, year, month, day))
 }

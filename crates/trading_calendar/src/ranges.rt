@@ -1,6 +1,6 @@
 // The calls about the trading days of a month and of a range. Labels in brackets are those of docs/SCOPE.md.
 ghost use mathlib.Core.Path.{_≡_};
-ghost use Rattle.calendar.specs.RangeCalls.{tradingDaysInMonthResult, tradingDaysInMonthBuffer, countTradingDaysResult};
+ghost use Rattle.range_calls.specs.RangeCalls.{tradingDaysInMonthResult, tradingDaysInMonthBuffer, countTradingDaysResult};
 ghost use Rattle.answers.specs.Answers.{countAnswer};
 use answers::counts::CountAnswer;
 use answers::counts::count_answer;
@@ -17,7 +17,7 @@ pub extern "C" fn tc_trading_days_in_month(
     ensures { λ r. ⌜ (r ≡ countAnswer (tradingDaysInMonthResult market year month (now (out .entry))))
         × (now (out .exit) ≡ tradingDaysInMonthBuffer market year month (now (out .entry))) ⌝ }
 {
-    count_answer(calendar::counts::trading_days_in_month(market, year, month, out))
+    count_answer(range_calls::counts::trading_days_in_month(market, year, month, out))
 }
 
 // [count]: how many days trade from the start to the end, both included, or the first of errors 8, 5 and 1 that applies.
@@ -34,7 +34,7 @@ pub extern "C" fn tc_count_trading_days(
     ensures { λ r. ⌜ r ≡ countAnswer (countTradingDaysResult market «start_year» «start_month» «start_day»
         «end_year» «end_month» «end_day») ⌝ }
 {
-    count_answer(calendar::counts::count_trading_days(
+    count_answer(range_calls::counts::count_trading_days(
         market,
         start_year,
         start_month,

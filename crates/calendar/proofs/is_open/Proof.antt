@@ -2,13 +2,12 @@
 use mathlib.Core.Path.{_≡_, ap, sym, _∙_}
 use mathlib.Core.Bool.{_&&_}
 use borrow.Author.Needs.{needs}
-use Rattle.schedule.specs.declared.TradingHours.{TradingHours}
-use Rattle.schedule.specs.Schedule.{isOpenAt}
+use Rattle.gregorian.specs.Calendar.{date}
 use Rattle.calendar.specs.declared.DayResult.{DayResult}
 use Rattle.error.specs.declared.BoolResult.{BoolResult}
 use Rattle.hours.specs.Calls.{isTime}
 use Rattle.calendar.specs.Calls.{supportedDay}
-use Rattle.calendar.proofs.CallLaws.{checked-date, supported-day, day-in-years, past-ok, past-error}
+use Rattle.calendar.proofs.CallLaws.{day-in-years, past-ok, past-error}
 use Rattle.calendar.proofs.is_open.Statement.{statement}
 use Rattle.calendar.proofs.is_open.Tie as tie
 
@@ -23,15 +22,12 @@ day c = sym (checked (c .before .before)) ∙ c .n .given .1
 is-trading-day-requires : tie.Need-is-trading-day-requires
 is-trading-day-requires c κs = day-in-years _ _ _ _ _ _ (day (c .before))
 
-trading-hours-requires : tie.Need-trading-hours-requires
-trading-hours-requires c κs = checked-date _ _ _ _ _ (supported-day _ _ _ _ _ _ (day (c .before .before))) .0
-
 returns : tie.Need-returns
 returns c =
-    let s = c .before .before .before .before in
-    let hours = ap (λ (h : TradingHours). isOpenAt h (s .before .before .before .before .args .time)) (c .before .trading-hours .ensures) in
-    let is-open = c .is-open-at .ensures ∙ hours in
-    past-ok _ _ _ _ _ (sym (day s)) (λ j. BoolResult.Ok (c .before .before .is-trading-day .ensures j && is-open j))
+    let s = c .before .before .before in
+    let a = s .before .before .before .before .args in
+    let is-open = c .is-market-open-at .ensures (date (a .year) (a .month) (a .day)) in
+    past-ok _ _ _ _ _ (sym (day s)) (λ j. BoolResult.Ok (c .before .is-trading-day .ensures j && is-open j))
 
 returns-2 : tie.Need-returns-2
 returns-2 c = past-error _ _ _ _ (sym (c .before .e .given .1) ∙ checked (c .before .before .before))
@@ -39,4 +35,4 @@ returns-2 c = past-error _ _ _ _ (sym (c .before .e .given .1) ∙ checked (c .b
 pub is-open-spec : {M : Type 1} → statement M
 is-open-spec =
     tie.close
-    (tie.spec (search needs) (search needs) (search needs) is-trading-day-requires trading-hours-requires (search needs) (search needs) returns returns-2)
+    (tie.spec (search needs) (search needs) (search needs) is-trading-day-requires (search needs) (search needs) returns returns-2)

@@ -8,7 +8,7 @@ use borrow.Author.Needs.{needs}
 use Rattle.trading_days.specs.Month.{monthList}
 use Rattle.trading_days.proofs.MonthDayLaws.{list-length}
 use Rattle.error.specs.declared.CountResult.{CountResult}
-use Rattle.calendar.specs.RangeCalls.{tradingDaysInMonthResult, tradingDaysInMonthBuffer}
+use Rattle.range_calls.specs.RangeCalls.{tradingDaysInMonthResult, tradingDaysInMonthBuffer}
 use Rattle.sheet.proofs.CallLaws.{month-error, days-bound, days-listed, sheet-written}
 use Rattle.sheet.proofs.sheet_of_month.Statement.{statement}
 use Rattle.sheet.proofs.sheet_of_month.Tie as tie

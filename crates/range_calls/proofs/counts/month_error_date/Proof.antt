@@ -1,11 +1,11 @@
--- `calendar::counts::month_error_date` meets its contract: the first of the month where it is a date.
+-- `range_calls::counts::month_error_date` meets its contract: the first of the month where it is a date.
 use mathlib.Core.Path.{_≡_, ap, sym, _∙_}
 use mathlib.Core.Bool.{Bool, cond}
 use borrow.Author.Needs.{needs}
 use Rattle.gregorian.specs.Calendar.{date}
-use Rattle.calendar.specs.RangeCalls.{monthErrorDate}
-use Rattle.calendar.proofs.counts.month_error_date.Statement.{statement}
-use Rattle.calendar.proofs.counts.month_error_date.Tie as tie
+use Rattle.range_calls.specs.RangeCalls.{monthErrorDate}
+use Rattle.range_calls.proofs.counts.month_error_date.Statement.{statement}
+use Rattle.range_calls.proofs.counts.month_error_date.Tie as tie
 
 -- the date by what is_date answered
 by-test : (c : tie.After-is-date) (b : Bool) → c .is-date .result ≡ b

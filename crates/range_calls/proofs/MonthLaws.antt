@@ -17,10 +17,10 @@ use Rattle.error.specs.declared.CountResult.{CountResult}
 use Rattle.error.specs.declared.CalendarError.{CalendarError}
 use Rattle.error.specs.declared.CalendarError.the-variants.{UnknownMarket, DateOutOfRange, InvalidDateCalculation, BufferTooSmall}
 use Rattle.trading_days.specs.Month.{monthList}
 use Rattle.calendar.specs.Calls.{isSupported}
 use Rattle.calendar.proofs.CallLaws.{supported-years}
-use Rattle.calendar.specs.RangeCalls.{monthErrorDate, writtenResult, finalBuffer, MonthCheck, checkedMonth, tryMonth}
-use Rattle.calendar.specs.RangeCalls.{tradingDaysInMonthResult, tradingDaysInMonthBuffer}
+use Rattle.range_calls.specs.RangeCalls.{monthErrorDate, writtenResult, finalBuffer, MonthCheck, checkedMonth, tryMonth}
+use Rattle.range_calls.specs.RangeCalls.{tradingDaysInMonthResult, tradingDaysInMonthBuffer}
 
 -- ---- bytes and a buffer
 

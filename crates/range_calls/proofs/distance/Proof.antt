@@ -1,9 +1,9 @@
--- `calendar::distance` meets its contract: the later day less the earlier.
+-- `range_calls::distance` meets its contract: the later day less the earlier.
 use native.Mathlib.Omega.{arith}
 use borrow.Author.Needs.{needs}
-use Rattle.calendar.proofs.RangeLaws.{to-later, to-earlier}
-use Rattle.calendar.proofs.distance.Statement.{statement}
-use Rattle.calendar.proofs.distance.Tie as tie
+use Rattle.range_calls.proofs.RangeLaws.{to-later, to-earlier}
+use Rattle.range_calls.proofs.distance.Statement.{statement}
+use Rattle.range_calls.proofs.distance.Tie as tie
 
 returns : tie.Need-returns
 returns c = to-later _ _ _ (omega arith) (omega arith)

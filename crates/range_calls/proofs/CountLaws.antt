@@ -11,10 +11,10 @@ use Rattle.ranges.specs.Ranges.{countTradingDays}
 use Rattle.error.specs.declared.CountResult.{CountResult}
 use Rattle.error.specs.declared.CalendarError.{CalendarError}
 use Rattle.error.specs.declared.CalendarError.the-variants.{DateOutOfRange}
 use Rattle.calendar.specs.declared.DayResult.{DayResult}
 use Rattle.calendar.specs.Calls.{tryDay, checkedDay}
-use Rattle.calendar.specs.RangeCalls.{countTradingDaysResult}
+use Rattle.range_calls.specs.RangeCalls.{countTradingDaysResult}
 use Rattle.calendar.proofs.CallLaws.{past-ok, past-error, checked}
 
 module _ (market startYear startMonth startDay endYear endMonth endDay : ℕ) where
   abbrev answer : CountResult

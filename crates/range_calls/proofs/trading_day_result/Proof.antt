@@ -1,11 +1,11 @@
--- `calendar::trading_day_result` meets its contract: both arms.
+-- `range_calls::trading_day_result` meets its contract: both arms.
 use mathlib.Core.Path.{ap, sym, _∙_, subst}
 use borrow.Author.Needs.{needs}
 use Rattle.utils.specs.Weekday.{InYears}
-use Rattle.calendar.specs.declared.TradingDayResult.{TradingDayResult}
-use Rattle.calendar.specs.RangeCalls.{tradingDayResult}
-use Rattle.calendar.proofs.trading_day_result.Statement.{statement}
-use Rattle.calendar.proofs.trading_day_result.Tie as tie
+use Rattle.range_calls.specs.declared.TradingDayResult.{TradingDayResult}
+use Rattle.range_calls.specs.RangeCalls.{tradingDayResult}
+use Rattle.range_calls.proofs.trading_day_result.Statement.{statement}
+use Rattle.range_calls.proofs.trading_day_result.Tie as tie
 
 trading-day-requires : tie.Need-trading-day-requires
 trading-day-requires c κs = subst InYears (c .before .neighbour .given .1) (c .before .before .before .pre)

@@ -16,9 +16,9 @@ use Rattle.buffers.specs.Buffers.{overwrite}
 use Rattle.error.specs.declared.CountResult.{CountResult}
 use Rattle.error.specs.declared.CalendarError.{CalendarError}
 use Rattle.error.specs.declared.CalendarError.the-variants.{UnknownMarket, DateOutOfRange, InvalidDateCalculation, NoTradingDayFound, BufferTooSmall}
-use Rattle.calendar.specs.declared.TradingDay.{TradingDay}
-use Rattle.calendar.specs.declared.TradingDayResult.{TradingDayResult}
+use Rattle.range_calls.specs.declared.TradingDay.{TradingDay}
+use Rattle.range_calls.specs.declared.TradingDayResult.{TradingDayResult}
 use Rattle.calendar.specs.Calls.{isSupported, tryDay, checkedDay}
 
 -- ---- next and previous
 

@@ -1,13 +1,13 @@
--- `calendar::counts::count_trading_days` meets its contract: the days past the checks are those of dates, and an error stays.
+-- `range_calls::counts::count_trading_days` meets its contract: the days past the checks are those of dates, and an error stays.
 use mathlib.Core.Path.{_≡_, sym, _∙_}
 use native.Mathlib.Omega.{arith}
 use borrow.Author.Needs.{needs}
 use Rattle.calendar.specs.declared.DayResult.{DayResult}
 use Rattle.calendar.specs.Calls.{checkedDay}
 use Rattle.calendar.proofs.CallLaws.{checked-in-years}
-use Rattle.calendar.proofs.CountLaws.{start-error, end-error, count-outside, count-inside}
-use Rattle.calendar.proofs.counts.count_trading_days.Statement.{statement}
-use Rattle.calendar.proofs.counts.count_trading_days.Tie as tie
+use Rattle.range_calls.proofs.CountLaws.{start-error, end-error, count-outside, count-inside}
+use Rattle.range_calls.proofs.counts.count_trading_days.Statement.{statement}
+use Rattle.range_calls.proofs.counts.count_trading_days.Tie as tie
 
 -- the days past the checks
 start : (c : tie.After-start) → (let a = c .before .before .before .args in DayResult.Ok (c .start .given .0 .0) ≡ checkedDay (a .market) (a .start-year) (a .start-month) (a .start-day))

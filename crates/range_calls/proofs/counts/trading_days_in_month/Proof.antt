@@ -1,4 +1,4 @@
--- `calendar::counts::trading_days_in_month` meets its contract: each error by the tests before it, and then the bytes.
+-- `range_calls::counts::trading_days_in_month` meets its contract: each error by the tests before it, and then the bytes.
 use Prim.Native.Nat.{ℕ, _-_, _≤_}
 use mathlib.Core.Path.{_≡_, sym, ap, _∙_}
 use mathlib.Core.Bool.{true, _&&_}
@@ -10,10 +10,10 @@ use borrow.Author.Tests.{not-true, not-false}
 use borrow.Author.Needs.{needs}
 use denote.Ref.{now}
 use Rattle.buffers.specs.Buffers.{overwrite}
 use Rattle.calendar.specs.Calls.{isSupported}
-use Rattle.calendar.proofs.MonthLaws.{first-is-date, month-error-8, month-error-1, month-error-2, month-error-9, month-written}
-use Rattle.calendar.proofs.counts.trading_days_in_month.Statement.{statement}
-use Rattle.calendar.proofs.counts.trading_days_in_month.Tie as tie
+use Rattle.range_calls.proofs.MonthLaws.{first-is-date, month-error-8, month-error-1, month-error-2, month-error-9, month-written}
+use Rattle.range_calls.proofs.counts.trading_days_in_month.Statement.{statement}
+use Rattle.range_calls.proofs.counts.trading_days_in_month.Tie as tie
 
 -- past each test: the market is known, the year is one of 2020 to 2030, and the month is one
 is-market : (c : tie.Else1) → c .before .before .before .before .args .market ≤ 4

@@ -1,12 +1,12 @@
--- `calendar::trading_day` meets its contract: each field.
+-- `range_calls::trading_day` meets its contract: each field.
 use mathlib.Core.Path.{ap, _∙_}
 use mathlib.Core.Bool.{not, _||_}
 use borrow.Author.Needs.{needs}
 use Rattle.gregorian.specs.declared.Date.{Date}
 use Rattle.calendar.specs.Calls.{isSupported}
-use Rattle.calendar.specs.RangeCalls.{tradingDay}
-use Rattle.calendar.proofs.trading_day.Statement.{statement}
-use Rattle.calendar.proofs.trading_day.Tie as tie
+use Rattle.range_calls.specs.RangeCalls.{tradingDay}
+use Rattle.range_calls.proofs.trading_day.Statement.{statement}
+use Rattle.range_calls.proofs.trading_day.Tie as tie
 
 returns : tie.Need-returns
 unfolding tradingDay

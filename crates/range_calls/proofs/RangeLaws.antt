@@ -6,11 +6,11 @@ use mathlib.Core.Bool.{true}
 use borrow.Author.Tests.{lt-ltb, le-ltb}
 use Rattle.gregorian.specs.Calendar.{isDate, dayNumber}
 use Rattle.utils.specs.declared.OptionalDay.{OptionalDay}
 use Rattle.calendar.specs.declared.DayResult.{DayResult}
-use Rattle.calendar.specs.declared.TradingDayResult.{TradingDayResult}
+use Rattle.range_calls.specs.declared.TradingDayResult.{TradingDayResult}
 use Rattle.calendar.specs.Calls.{checkedDay}
-use Rattle.calendar.specs.RangeCalls.{distanceOf, tradingDayResult, neighbourResult}
+use Rattle.range_calls.specs.RangeCalls.{distanceOf, tradingDayResult, neighbourResult}
 use Rattle.calendar.proofs.CallLaws.{past-ok, checked}
 
 -- The distance to a later day, and to an earlier one.
 module _ (n m r : ℕ) where

@@ -1,12 +1,12 @@
--- `calendar::previous_trading_day` meets its contract: the day past the checks is that of a date, and an error stays.
+-- `range_calls::previous_trading_day` meets its contract: the day past the checks is that of a date, and an error stays.
 use mathlib.Core.Path.{sym, _∙_, subst}
 use borrow.Author.Needs.{needs}
 use Rattle.utils.specs.Weekday.{InYears}
 use Rattle.ranges.proofs.Neighbours.{previous-in-years}
 use Rattle.calendar.proofs.CallLaws.{checked-in-years, past-error}
-use Rattle.calendar.proofs.RangeLaws.{neighbour-is}
-use Rattle.calendar.proofs.previous_trading_day.Statement.{statement}
-use Rattle.calendar.proofs.previous_trading_day.Tie as tie
+use Rattle.range_calls.proofs.RangeLaws.{neighbour-is}
+use Rattle.range_calls.proofs.previous_trading_day.Statement.{statement}
+use Rattle.range_calls.proofs.previous_trading_day.Tie as tie
 
 previous-trading-day-requires : tie.Need-previous-trading-day-requires
 previous-trading-day-requires c κs = checked-in-years _ _ _ _ _ (sym (c .before .before .before .checked-day .ensures) ∙ c .before .n .given .1)

@@ -1,0 +1,81 @@
+// The calls of src/calendar.rs of the Rust about ranges of days, on numbers: here those about the neighbouring trading days. Labels
+// in brackets are those of docs/SCOPE.md.
+pub mod counts;
+
+ghost use mathlib.Core.Path.{_≡_};
+ghost use Prim.Native.Nat.{_≤_};
+ghost use Rattle.gregorian.specs.Calendar.{lastDay};
+ghost use Rattle.utils.specs.Weekday.{InYears};
+ghost use Rattle.range_calls.specs.RangeCalls.{distanceOf, tradingDay, tradingDayResult, nextTradingDayResult, previousTradingDayResult};
+use calendar::DayResult;
+use calendar::checked_day;
+use calendar::is_supported;
+use error::CalendarError;
+use gregorian::Date;
+use utils::OptionalDay;
+
+// The answer of next and previous: its distance in days from the date given [distance], and whether either date is outside 2020
+// to 2030 [outside].
+pub struct TradingDay {
+    pub date: Date,
+    pub distance: u32,
+    pub outside: bool,
+}
+
+pub enum TradingDayResult {
+    Ok(TradingDay),
+    Err(CalendarError),
+}
+
+// [distance]
+fn distance(n: u32, m: u32) -> u32
+    ensures { λ r. ⌜ r ≡ distanceOf n m ⌝ }
+{
+    if n < m { m - n } else { n - m }
+}
+
+// The answer m to a call on day n of that year.
+fn trading_day(year: u32, n: u32, m: u32) -> TradingDay
+    requires { ⌜ (1 ≤ m) × (m ≤ lastDay) ⌝ }
+    ensures { λ r. ⌜ r ≡ tradingDay year n m ⌝ }
+{
+    let date = gregorian::date_of(m);
+    TradingDay {
+        date,
+        distance: distance(n, m),
+        outside: !is_supported(year) | !is_supported(date.year),
+    }
+}
+
+// Error 6 where there is no answer.
+fn trading_day_result(year: u32, n: u32, neighbour: OptionalDay) -> TradingDayResult
+    requires { ⌜ InYears neighbour ⌝ }
+    ensures { λ r. ⌜ r ≡ tradingDayResult year n neighbour ⌝ }
+{
+    match neighbour {
+        OptionalDay::Day(m) => TradingDayResult::Ok(trading_day(year, n, m)),
+        OptionalDay::None => TradingDayResult::Err(CalendarError::NoTradingDayFound),
+    }
+}
+
+// [next]
+pub fn next_trading_day(market: u32, year: u32, month: u32, day: u32) -> TradingDayResult
+    ensures { λ r. ⌜ r ≡ nextTradingDayResult market year month day ⌝ }
+{
+    match checked_day(market, year, month, day) {
+        DayResult::Ok(n) => { trading_day_result(year, n, neighbours::next_trading_day(market, n)) }
+        DayResult::Err(e) => TradingDayResult::Err(e),
+    }
+}
+
+// [previous]
+pub fn previous_trading_day(market: u32, year: u32, month: u32, day: u32) -> TradingDayResult
+    ensures { λ r. ⌜ r ≡ previousTradingDayResult market year month day ⌝ }
+{
+    match checked_day(market, year, month, day) {
+        DayResult::Ok(n) => {
+            trading_day_result(year, n, neighbours::previous_trading_day(market, n))
+        }
+        DayResult::Err(e) => TradingDayResult::Err(e),
+    }
+}
