@@ -39,14 +39,11 @@ pub const NO_DATE: Date = Date {
     day: 0,
 };
 
+// Without a branch, so that where it is asked for several times it is computed once.
 pub fn is_leap(year: u32) -> bool
     ensures { λ r. ⌜ r ≡ leap year ⌝ }
 {
-    if year % 100 == 0 {
-        year % 400 == 0
-    } else {
-        year % 4 == 0
-    }
+    (year % 4 == 0) & ((year % 100 != 0) | (year % 400 == 0))
 }
 
 // The months but February have 31 and 30 days by turns, and anew from August on. 0 where there is no such month.
