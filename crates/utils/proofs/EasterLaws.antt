@@ -40,8 +40,8 @@ moon-high a b = rest-30 _
 pub at-most-35 : (h q x : ℕ) → h ≤ 29 → h + q % 7 - x ≤ 35
 at-most-35 h q x k = omega arith
 
-pub n-fits : (h q x : ℕ) → h ≤ 29 → h + q % 7 - x + 114 < 2 ^ 32
-n-fits h q x k = omega (arith, at-most-35 h q x k)
+pub days-fit : (n h q x : ℕ) → n ≤ lastDay → h ≤ 29 → n + (h + q % 7 - x) < 2 ^ 32
+days-fit n h q x l k = omega (arith, at-most-35 h q x k)
 
 -- The days from 22 March to Easter, h + l - 7 * m, from the year and h: at most 34.
 unfoldable pub daysAfter : ℕ → ℕ → ℕ

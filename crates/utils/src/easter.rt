@@ -16,6 +16,7 @@ fn moon_days(a: u32, b: u32) -> u32
     (19 * a + b - d - g + 15) % 30
 }
 
+// The month and the day that the algorithm makes of h + l - 7 * m are those of the day so many days after 22 March.
 pub fn calculate_easter(year: u32) -> OptionalDay
     ensures { λ r. ⌜ r ≡ calculateEaster year ⌝ }
 {
@@ -34,8 +35,9 @@ pub fn calculate_easter(year: u32) -> OptionalDay
     let k = c % 4;
     let l = (32 + 2 * e + 2 * i - h - k) % 7;
     let m = (a + 11 * h + 22 * l) / 451;
-    let n = h + l - 7 * m + 114;
-    OptionalDay::Day(gregorian::day_number(year, n / 31, n % 31 + 1))
+    let days = h + l - 7 * m;
+    let easter = gregorian::day_number(year, 3, 22) + days;
+    OptionalDay::Day(easter)
 }
 
 pub fn calculate_good_friday(year: u32) -> OptionalDay
