@@ -100,3 +100,18 @@ impl fmt::Display for CalendarError {
 }
 
 impl std::error::Error for CalendarError {}
+
+#[cfg(test)]
+mod tests {
+    use super::*;
+
+    #[test]
+    fn numbers_of_errors_go_both_ways_and_others_are_shown() {
+        let answered = |error| CalendarError::answered(error, 0, NaiveDate::MIN.into());
+        for error in 1..=10 {
+            assert_eq!(answered(error).number(), Some(error));
+        }
+        let other = CalendarError::InvalidConfiguration("the library gave error 11".to_string());
+        assert_eq!(answered(11), other);
+    }
+}

@@ -1,0 +1,168 @@
+//! Every error is reached, with its number and what is returned with it; no input panics.
+
+use std::collections::BTreeSet;
+use std::error::Error;
+use trading_calendar::sheet::month_sheet;
+use trading_calendar::utils::easter::{calculate_easter, calculate_easter_monday};
+use trading_calendar::CalendarError::{self, *};
+use trading_calendar::*;
+
+fn date(year: i32, month: u32, day: u32) -> NaiveDate {
+    NaiveDate::from_ymd_opt(year, month, day).unwrap()
+}
+
+fn time(hour: u32) -> NaiveTime {
+    NaiveTime::from_hms_opt(hour, 0, 0).unwrap()
+}
+
+fn nyse() -> TradingCalendar {
+    TradingCalendar::default()
+}
+
+#[test]
+fn outside_2020_to_2030() {
+    for day in [
+        date(2019, 12, 31),
+        date(2031, 1, 1),
+        NaiveDate::MIN,
+        NaiveDate::MAX,
+    ] {
+        let due = DateOutOfRange(day);
+        assert_eq!(nyse().is_trading_day(day), Err(due.clone()));
+        assert_eq!(nyse().is_holiday(day), Err(due.clone()));
+        assert_eq!(nyse().is_open(day, time(10)), Err(due));
+    }
+    let (start, end) = (date(2030, 12, 31), date(2031, 1, 1));
+    assert_eq!(
+        nyse().count_trading_days(start, end),
+        Err(DateOutOfRange(start))
+    );
+    assert_eq!(nyse().count_trading_days(end, start), Ok(0));
+}
+
+/// [month-error-date]: also for years and months that only the type of the number has.
+#[test]
+fn months_outside_2020_to_2030() {
+    let due = [
+        (2019, 12, date(2019, 12, 1)),
+        (9999, 1, date(9999, 1, 1)),
+        (2019, 13, NaiveDate::default()),
+        (0, 1, NaiveDate::default()),
+        (10_000, 1, NaiveDate::default()),
+        (-1, 1, NaiveDate::default()),
+        (-2025, 3, NaiveDate::default()),
+        (i32::MIN, u32::MAX, NaiveDate::default()),
+        (i32::MAX, 0, NaiveDate::default()),
+    ];
+    for (year, month, day) in due {
+        let due = DateOutOfRange(day);
+        assert_eq!(nyse().trading_days_in_month(year, month), Err(due.clone()));
+        assert_eq!(nyse().month_sheet(year, month), Err(due));
+    }
+}
+
+/// Error 2, with the number that it has; and the year without Easter.
+#[test]
+fn months_that_are_none() {
+    for month in [0, 13, 100, 999_999_999, u32::MAX] {
+        let list = nyse().trading_days_in_month(2025, month).unwrap_err();
+        assert_eq!(list.number(), Some(2));
+        assert_eq!(nyse().month_sheet(2025, month), Err(list));
+    }
+    for year in [i32::MIN, -1, 0, 10_000, i32::MAX] {
+        assert!(matches!(
+            calculate_easter(year),
+            Err(InvalidDateCalculation(_))
+        ));
+        assert!(matches!(
+            calculate_easter_monday(year),
+            Err(InvalidDateCalculation(_))
+        ));
+    }
+}
+
+#[test]
+fn no_trading_day_is_left() {
+    for market in Market::ALL {
+        let calendar = TradingCalendar::new(market).unwrap();
+        assert_eq!(
+            calendar.next_trading_day(NaiveDate::MAX),
+            Err(NoTradingDayFound)
+        );
+        assert_eq!(
+            calendar.previous_trading_day(NaiveDate::MIN),
+            Err(NoTradingDayFound)
+        );
+        let outside = calendar
+            .next_trading_day_with_distance(NaiveDate::MIN)
+            .unwrap();
+        assert!(outside.outside && outside.distance > 0);
+    }
+}
+
+#[test]
+fn a_buffer_that_is_too_small_stays_as_it_was() {
+    let text = b"market=4\nyear=2022\nmonth=12\n";
+    let mut sheet = [b'.'; 98];
+    assert_eq!(month_sheet(text, &mut sheet[..97]), Err(BufferTooSmall(98)));
+    assert_eq!(month_sheet(text, &mut []), Err(BufferTooSmall(98)));
+    assert_eq!(sheet, [b'.'; 98]);
+    assert_eq!(month_sheet(text, &mut sheet), Ok(98));
+    let whole = TradingCalendar::new(Market::TSX)
+        .unwrap()
+        .month_sheet(2022, 12);
+    assert_eq!(whole.unwrap().as_bytes(), sheet);
+}
+
+/// One of each variant, from the call that gives it.
+fn one_of_each() -> [CalendarError; 11] {
+    let session = Session {
+        start: time(9),
+        end: time(16),
+    };
+    let hours = TradingHours::new(date(2025, 3, 10), session, None, None);
+    [
+        nyse().is_trading_day(date(2019, 1, 1)).unwrap_err(),
+        nyse().trading_days_in_month(2025, 13).unwrap_err(),
+        Session::new(time(9), time(9)).unwrap_err(),
+        hours.with_early_close(time(16)).unwrap_err(),
+        NaiveDate::try_from(ffi::Date::default()).unwrap_err(),
+        nyse().next_trading_day(NaiveDate::MAX).unwrap_err(),
+        NaiveTime::try_from(86_400).unwrap_err(),
+        Market::try_from(5).unwrap_err(),
+        month_sheet(b"market=0\nyear=2025\nmonth=1\n", &mut []).unwrap_err(),
+        month_sheet(b"", &mut []).unwrap_err(),
+        "FTSE".parse::<Market>().unwrap_err(),
+    ]
+}
+
+#[test]
+fn each_error_has_its_number_and_a_text_of_its_own() {
+    let errors = one_of_each();
+    let due = [1, 2, 3, 4, 5, 6, 7, 8, 9, 10].map(Some);
+    assert_eq!(errors.each_ref().map(CalendarError::number)[..10], due);
+    assert_eq!(errors[10].number(), None);
+    assert!(matches!(errors[3], InvalidTime(_)));
+    assert_eq!(
+        errors[10],
+        InvalidConfiguration("Unknown market: FTSE".to_string())
+    );
+    let texts: BTreeSet<String> = errors
+        .iter()
+        .map(|error| (error as &dyn Error).to_string())
+        .collect();
+    assert_eq!(texts.len(), errors.len());
+    assert!(texts.contains("2019-01-01 is outside the years 2020 to 2030"));
+}
+
+#[test]
+fn the_library_gives_the_numbers_that_the_types_rule_out() {
+    let text = |market: &str| format!("market={market}\nyear=2025\nmonth=1\n");
+    assert_eq!(
+        month_sheet(text("5").as_bytes(), &mut []),
+        Err(UnknownMarket)
+    );
+    assert_eq!(ffi::tc_is_trading_day(5, 2025, 1, 1).error, 8);
+    assert_eq!(ffi::tc_is_trading_day(0, 2025, 2, 29).error, 5);
+    assert_eq!(ffi::tc_is_open(0, 2025, 1, 1, 86_400).error, 7);
+}
