@@ -39,6 +39,7 @@ fn folder() -> Result<PathBuf, String> {
 }
 
 fn with_archive(folder: PathBuf) -> Option<PathBuf> {
+    let folder = folder.canonicalize().ok()?;
     folder.join(ARCHIVE).is_file().then_some(folder)
 }
 

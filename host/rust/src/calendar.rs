@@ -147,8 +147,8 @@ impl TradingCalendar {
     ///
     /// # Errors
     ///
-    /// `DateOutOfRange` outside 2020 to 2030, with the 1st of the month, or 1970-01-01 where the years 1 to 9999 have none
-    /// `[month-error-date]`; `InvalidDateCalculation` if the month is not 1 to 12.
+    /// `DateOutOfRange` outside 2020 to 2030, with the 1st of the month, or 1970-01-01 where the years 1 to 9999 have none, as for
+    /// a negative year `[month-error-date]`; `InvalidDateCalculation` if the month is not 1 to 12.
     ///
     /// ```
     /// use trading_calendar::{Market, TradingCalendar};
@@ -190,8 +190,8 @@ impl TradingCalendar {
             .answered()
     }
 
-    /// Added: the sheet of a month as text `[sheet-output]`; the errors of `trading_days_in_month`. [`sheet::month_sheet`] writes it
-    /// into a buffer.
+    /// Added: the sheet of a month as text `[sheet-output]`, with the errors of `trading_days_in_month`. [`sheet::month_sheet`]
+    /// writes it into a buffer.
     ///
     /// ```
     /// use trading_calendar::{Market, TradingCalendar};

@@ -1,10 +1,10 @@
-//! Between the types of this crate and the numbers of the calls. Dates and times in an answer are proved to be some, and so
-//! are not checked again; an error that the types rule out is not asked for.
+//! Between the types of this crate and the numbers of the calls. The dates and times of an answer are proved to be some, and so
+//! are not checked again.
 
 use crate::calendar::TradingDay;
 use crate::{ffi, CalendarError, NaiveDate, NaiveTime, Result, Session, TradingHours};
 
-/// A negative year is asked for as the year 0, which is as little a year of the calendar as it is.
+/// A negative year is asked for as the year 0, which the calls answer in the same way: it is not 1 to 9999.
 pub(crate) fn year_number(year: i32) -> u32 {
     u32::try_from(year).unwrap_or(0)
 }

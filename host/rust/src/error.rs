@@ -14,7 +14,7 @@ pub enum CalendarError {
     NoTradingDayFound,
     /// A month that is not 1 to 12 `[month-list]`, or a year without Easter `[easter]`.
     InvalidDateCalculation(String),
-    /// A name that no market has, or an error that this version of the library does not give.
+    /// A name that no market has; or the library gave an error that `[errors]` does not list.
     InvalidConfiguration(String),
     /// A session of equal ends `[session-new]`.
     InvalidSession,

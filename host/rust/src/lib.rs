@@ -13,7 +13,7 @@
 //! let early = NaiveDate::from_ymd_opt(2019, 1, 1).unwrap();
 //! let error = nyse.is_trading_day(early).unwrap_err();
 //! assert_eq!(error, CalendarError::DateOutOfRange(early));
-//! assert_eq!(error.number(), Some(1)); // of `[errors]`
+//! assert_eq!(error.number(), Some(1)); // in the table of errors of docs/SCOPE.md
 //! # Ok::<(), CalendarError>(())
 //! ```
 //!
@@ -21,20 +21,23 @@
 //!
 //! | In the original | Here |
 //! |---|---|
-//! | chrono's `NaiveDate`, `NaiveTime`, `Weekday` | this crate's, with the few methods that are named there; `year`, `month`, `day`, `weekday`, `num_seconds_from_midnight`, `hour`, `minute` and `second` are methods of the types, and there is no `Datelike` or `Timelike` |
-//! | dates of any year | dates of the years 1 to 9999: `from_ymd_opt` gives none for others `[date]` |
-//! | times with parts of a second | whole seconds `[time]`: drop the rest of the time that is asked about, which changes no answer as all hours are whole seconds |
-//! | `next_trading_day`, `previous_trading_day` give a date | a `Result`: `NoTradingDayFound` at the ends of these years. The methods `.._with_distance` also give the distance, and whether a date is outside 2020 to 2030 `[next]` |
-//! | `utils::nth_weekday_of_month` panics or wraps for nth 0; for month 0 `last_weekday_of_month` answers December | none `[nth-weekday]` `[last-weekday]` |
-//! | `trading_days_in_month` with a year that is not 1 to 9999: `DateOutOfRange` with that year's date | the same with 1970-01-01, also for a negative year `[month-error-date]` |
-//! | `calculate_easter` and its neighbours answer for years that are not 1 to 9999 | `InvalidDateCalculation` `[easter]` |
-//! | `CalendarError` | has variants more, and all its texts are worded anew; `number()` gives the number of `[errors]` |
-//! | `timezone`, `is_open_now`, `next_open`, `next_close` | not there `[left-out]`: convert to the exchange's clock, America/New_York, Europe/London, Asia/Tokyo or America/Toronto, and ask `is_open` |
-//! | `constants`, `Holiday`, `HolidayCache`, `MarketImpl` and its types, the feature `serialization`, `DateTime`, `Utc` | not there `[left-out]`: `trading_hours` has the seconds |
+//! | chrono's `NaiveDate`, `NaiveTime`, `Weekday` | this crate's, with the few methods that such code uses; `year`, `month`, `day`, `weekday`, `hour`, `minute`, `second` and `num_seconds_from_midnight` are methods of the types, without `Datelike` and `Timelike`. From chrono's: `NaiveDate::from_ymd_opt(d.year(), d.month(), d.day())`, `NaiveTime::try_from(t.num_seconds_from_midnight())` |
+//! | dates of any year | of the years 1 to 9999 `[date]`: `from_ymd_opt` gives none for others |
+//! | times with parts of a second | whole seconds `[time]`: dropping the parts changes no answer where sessions start and end on whole seconds, as those of the markets do |
+//! | `next_trading_day`, `previous_trading_day` give a date | a `Result`, `NoTradingDayFound` at the ends of these years `[next]` `[previous]` |
+//! | `nth_weekday_of_month` panics or wraps for nth 0, `last_weekday_of_month` answers December for month 0 | none `[nth-weekday]` `[last-weekday]` |
+//! | `trading_days_in_month` outside the years 1 to 9999: `DateOutOfRange` with the 1st of that month | with 1970-01-01, for a negative year too `[month-error-date]` |
+//! | `calculate_easter` and its neighbours answer outside the years 1 to 9999 | `InvalidDateCalculation` `[easter]` |
+//! | `CalendarError` | has more variants, and other texts |
+//! | `timezone`, `is_open_now`, `next_open`, `next_close`, `DateTime`, `Utc` | not there `[left-out]`: convert to the exchange's clock (America/New_York, Europe/London, Asia/Tokyo, America/Toronto) and ask `is_open` |
+//! | `HolidayCache`, `Holiday`, the feature `serialization` | not there `[left-out]` |
+//! | `MarketImpl` with the types behind it, `constants` | not there: the rules are in the library, and `trading_hours` gives the times |
 //!
-//! `TradingCalendar::is_open`, `month_sheet`, `Market::ALL` and `number`, and the conversions from numbers by `try_from`, are added.
-//! Nothing in this crate panics: [`ffi`] apart, a date, a time and a market are valid once they are made, so that errors 5, 7 and 8
-//! are given where numbers become types.
+//! Added are `is_open`, `next_trading_day_with_distance`, `previous_trading_day_with_distance` and `month_sheet` of a calendar,
+//! `Market::ALL` and `Market::number`, `CalendarError::number`, and `try_from` for a market, a date or a time by its numbers.
+//!
+//! Nothing here panics. A date, a time and a market are valid once they are made, so errors 5, 7 and 8 of `[errors]` come from
+//! `try_from`, and from the calls on numbers in [`ffi`].
 
 #![deny(unsafe_code)]
 #![deny(

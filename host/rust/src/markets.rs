@@ -82,7 +82,9 @@ impl FromStr for Market {
     fn from_str(text: &str) -> crate::Result<Self> {
         let code = text.to_uppercase();
         let market = Market::ALL.into_iter().find(|market| market.code() == code);
-        market.ok_or_else(|| CalendarError::InvalidConfiguration(format!("Unknown market: {text}")))
+        market.ok_or_else(|| {
+            CalendarError::InvalidConfiguration(format!("no market has the code {text}"))
+        })
     }
 }
 

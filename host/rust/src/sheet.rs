@@ -5,8 +5,8 @@ use crate::{ffi, Result};
 /// So many bytes are enough for every sheet.
 pub const LONGEST_SHEET: usize = 104;
 
-/// Writes the sheet `[sheet-output]` that the text asks for `[sheet-input]` from the start of the buffer, and answers how many bytes
-/// it has. With an error the buffer stays as it was.
+/// Writes the sheet `[sheet-output]` that the text asks for `[sheet-input]` from the start of the buffer, and answers how many
+/// bytes it has. With an error the buffer stays as it was.
 ///
 /// # Errors
 ///

@@ -1,6 +1,6 @@
 //! Dates, times, weekdays and markets can be made exactly where the library has them.
 
-use trading_calendar::{ffi, Market, NaiveDate, NaiveTime, Weekday};
+use trading_calendar::{ffi, CalendarError, Market, NaiveDate, NaiveTime, Weekday};
 
 /// Whether the library takes the numbers as a date, which it says by error 5 [date].
 fn is_date(year: u32, month: u32, day: u32) -> bool {
@@ -28,13 +28,26 @@ fn a_date_is_made_exactly_where_the_library_has_one() {
 }
 
 #[test]
-fn numbers_past_a_byte_or_below_1_are_no_date() {
-    for number in [i32::MIN, -1, 0, 10_000, 65_537, i32::MAX] {
-        assert_eq!(NaiveDate::from_ymd_opt(number, 1, 1), None);
+fn a_year_that_is_not_1_to_9999_has_no_date() {
+    for year in [i32::MIN, -2025, 0, 10_000, 1 << 16 | 2025, i32::MAX] {
+        assert_eq!(NaiveDate::from_ymd_opt(year, 1, 1), None);
     }
+}
+
+#[test]
+fn numbers_past_a_byte_are_no_month_and_no_day() {
     for number in [0, 32, 257, 65_537, u32::MAX] {
         assert_eq!(NaiveDate::from_ymd_opt(2025, number, 1), None);
         assert_eq!(NaiveDate::from_ymd_opt(2025, 1, number), None);
+    }
+}
+
+#[test]
+fn numbers_that_are_no_date_are_error_5() {
+    for year in [0, 10_000, 1 << 16 | 2025, 1 << 31 | 2025, u32::MAX] {
+        let (month, day) = (1, 1);
+        let date = NaiveDate::try_from(ffi::Date { year, month, day });
+        assert_eq!(date, Err(CalendarError::InvalidDate));
     }
 }
 
@@ -77,6 +90,20 @@ fn a_time_is_a_second_of_the_day() {
         assert!(seconds == 0 || NaiveTime::try_from(seconds - 1).unwrap() < time);
     }
     assert_eq!(NaiveTime::default().to_string(), "00:00:00");
+}
+
+#[test]
+fn numbers_that_are_no_time() {
+    for seconds in [86_400, 1 << 17, u32::MAX] {
+        assert_eq!(
+            NaiveTime::try_from(seconds),
+            Err(CalendarError::TimeOutOfRange)
+        );
+    }
+}
+
+#[test]
+fn hours_minutes_and_seconds_that_are_no_time() {
     for [hour, minute, second] in [[24, 0, 0], [0, 60, 0], [0, 0, 60], [u32::MAX; 3]] {
         assert_eq!(NaiveTime::from_hms_opt(hour, minute, second), None);
     }

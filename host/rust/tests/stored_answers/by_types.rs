@@ -2,7 +2,7 @@
 
 use crate::by_numbers::record;
 use crate::fields::Fields;
-use trading_calendar::ffi::{self, BoolResult, CountResult, OptionalDate};
+use trading_calendar::ffi::{self, BoolResult, CountResult, OptionalDate, TradingDayResult};
 use trading_calendar::sheet::month_sheet;
 use trading_calendar::utils::{easter::*, *};
 use trading_calendar::*;
@@ -12,12 +12,10 @@ type Numbers = Option<Vec<u32>>;
 /// None if the types have no such inputs.
 pub fn answer(kind: &str, inputs: &[u32]) -> Numbers {
     match (kind, inputs) {
-        ("nth_weekday_of_month", &[y, m, w, nth]) => of_option(nth_weekday_of_month(
-            year(y)?,
-            m,
-            weekday(w)?,
-            nth.try_into().ok()?,
-        )),
+        ("nth_weekday_of_month", &[y, m, w, nth]) => {
+            let nth = nth.try_into().ok()?;
+            of_option(nth_weekday_of_month(year(y)?, m, weekday(w)?, nth))
+        }
         ("last_weekday_of_month", &[y, m, w]) => {
             of_option(last_weekday_of_month(year(y)?, m, weekday(w)?))
         }
@@ -50,10 +48,14 @@ fn of_market(kind: &str, calendar: TradingCalendar, inputs: &[u32]) -> Numbers {
         ("is_open", &[y, m, d, at]) => of_bool(calendar.is_open(date(y, m, d)?, time(at)?)),
         ("trading_hours", &[y, m, d]) => of_hours(Ok(calendar.trading_hours(date(y, m, d)?))),
         ("next_trading_day", &[y, m, d]) => {
-            of_day(calendar.next_trading_day_with_distance(date(y, m, d)?))
+            let date = date(y, m, d)?;
+            let day = calendar.next_trading_day_with_distance(date);
+            of_day(calendar.next_trading_day(date), day)
         }
         ("previous_trading_day", &[y, m, d]) => {
-            of_day(calendar.previous_trading_day_with_distance(date(y, m, d)?))
+            let date = date(y, m, d)?;
+            let day = calendar.previous_trading_day_with_distance(date);
+            of_day(calendar.previous_trading_day(date), day)
         }
         ("trading_days_in_month", &[y, m, room]) => {
             of_month(calendar.trading_days_in_month(year(y)?, m), room as usize)
@@ -132,40 +134,30 @@ fn hours(inputs: &[u32]) -> Option<TradingHours> {
     })
 }
 
-/// The number of the error, and what is returned with it.
-fn error_fields(error: &CalendarError) -> CountResult {
-    let mut fields = CountResult {
-        error: error.number().unwrap_or(u32::MAX),
-        ..CountResult::default()
-    };
-    match error {
-        CalendarError::DateOutOfRange(date) => fields.date = (*date).into(),
-        CalendarError::BufferTooSmall(needed) => fields.count = *needed as u32,
-        _ => {}
-    }
-    fields
+/// 0 without an error. No row has the number of an error that has none.
+fn error_number<T>(answer: &Result<T>) -> u32 {
+    let number = |error: &CalendarError| error.number().unwrap_or(u32::MAX);
+    answer.as_ref().err().map_or(0, number)
 }
 
 fn count_result(answer: Result<usize>) -> CountResult {
-    match answer {
-        Ok(count) => CountResult {
-            count: count as u32,
-            ..CountResult::default()
-        },
-        Err(error) => error_fields(&error),
+    let error = error_number(&answer);
+    let (count, date) = match answer {
+        Ok(count) | Err(CalendarError::BufferTooSmall(count)) => (count, None),
+        Err(CalendarError::DateOutOfRange(date)) => (0, Some(date)),
+        Err(_) => (0, None),
+    };
+    CountResult {
+        error,
+        count: count as u32,
+        date: date.map_or_else(ffi::Date::default, Into::into),
     }
 }
 
 fn of_bool(answer: Result<bool>) -> Numbers {
     let CountResult { error, count, date } = count_result(answer.map(usize::from));
-    Some(
-        BoolResult {
-            error,
-            value: count,
-            date,
-        }
-        .fields(),
-    )
+    let value = count;
+    Some(BoolResult { error, value, date }.fields())
 }
 
 fn of_option(answer: Option<NaiveDate>) -> Numbers {
@@ -176,39 +168,29 @@ fn of_option(answer: Option<NaiveDate>) -> Numbers {
     Some(answer.map_or_else(OptionalDate::default, date).fields())
 }
 
-fn of_day(answer: Result<TradingDay>) -> Numbers {
-    let result = match answer {
-        Ok(TradingDay {
-            date,
-            distance,
-            outside,
-        }) => ffi::TradingDayResult {
-            error: 0,
-            date: date.into(),
-            distance,
-            outside: outside.into(),
-        },
-        Err(error) => {
-            let CountResult { error, date, .. } = error_fields(&error);
-            ffi::TradingDayResult {
-                error,
-                date,
-                distance: 0,
-                outside: 0,
-            }
-        }
+/// The date of the one answer, and the rest of the other. Neither has a date with an error.
+fn of_day(date: Result<NaiveDate>, day: Result<TradingDay>) -> Numbers {
+    let error = error_number(&day);
+    let date = date.map_or_else(|_| ffi::Date::default(), Into::into);
+    let (distance, outside) = day.map_or((0, false), |day| (day.distance, day.outside));
+    let outside = outside.into();
+    let result = TradingDayResult {
+        error,
+        date,
+        distance,
+        outside,
     };
     Some(result.fields())
 }
 
 fn of_session(answer: Result<Session>) -> Numbers {
-    let error = count_result(answer.clone().map(|_| 0)).error;
+    let error = error_number(&answer);
     let session = answer.map_or_else(|_| ffi::Session::default(), Into::into);
     Some(ffi::SessionResult { error, session }.fields())
 }
 
 fn of_hours(answer: Result<TradingHours>) -> Numbers {
-    let error = count_result(answer.clone().map(|_| 0)).error;
+    let error = error_number(&answer);
     let hours = answer.map_or_else(|_| ffi::Hours::default(), Into::into);
     Some(ffi::HoursResult { error, hours }.fields())
 }

@@ -32,11 +32,19 @@ impl Counts {
         if self.passed_over > 0 {
             return format!("{kind}: {} passed over", self.passed_over);
         }
+        let by_types = self.by_types;
+        format!("{}; {by_types} by the safe types", self.count(kind))
+    }
+
+    fn count(&self, kind: &str) -> String {
         let (compared, differ) = (self.compared(), self.differ.len());
-        format!(
-            "{kind}: {compared} compared, {differ} differ; {} by the safe types",
-            self.by_types
-        )
+        format!("{kind}: {compared} compared, {differ} differ")
+    }
+
+    fn report(&self, kind: &str) -> Vec<String> {
+        let lines = self.differ.iter();
+        let differ = lines.map(|line| format!("{kind}: line {line} differs"));
+        differ.chain([self.count(kind)]).collect()
     }
 }
 
@@ -63,44 +71,37 @@ impl Tally {
         self.faults.push(fault);
     }
 
-    /// The counts and the lines that differ, in the words of replay's expected output. Of a kind that was passed over it has
-    /// what the other side has, if that is of as many rows.
+    /// The counts and the lines that differ, in the words of replay's expected output. For a kind that was passed over it takes
+    /// over what is expected, if that is of as many rows.
     fn report(&self, expected: &BTreeSet<String>) -> BTreeSet<String> {
-        let of_kind = |(kind, counts): (&String, &Counts)| -> Vec<String> {
-            let own = format!("{kind}: ");
-            if counts.passed_over > 0 {
-                let rows = format!("{kind}: {} compared, ", counts.passed_over);
+        let of_kind = |(kind, counts): (&String, &Counts)| match counts.passed_over {
+            0 => counts.report(kind),
+            passed_over => {
+                let rows = format!("{kind}: {passed_over} compared, ");
                 let is_whole = expected.iter().any(|line| line.starts_with(&rows));
-                let theirs = expected.iter().filter(|line| line.starts_with(&own));
-                return theirs.filter(|_| is_whole).cloned().collect();
+                let is_of_kind =
+                    |line: &&String| is_whole && line.starts_with(&format!("{kind}: "));
+                expected.iter().filter(is_of_kind).cloned().collect()
             }
-            let differ = counts
-                .differ
-                .iter()
-                .map(|line| format!("{own}line {line} differs"));
-            let count = format!(
-                "{own}{} compared, {} differ",
-                counts.compared(),
-                counts.differ.len()
-            );
-            differ.chain([count]).collect()
         };
         self.kinds.iter().flat_map(of_kind).collect()
     }
 
-    /// Adds what is not as it should be: a difference from what replay expects, and a kind that was not put to the safe types.
+    /// Adds as faults where the rows are not those that replay expects, and kinds that were not put to the safe types.
     pub fn check(&mut self, expected: &BTreeSet<String>) {
         let report = self.report(expected);
-        let differences = report.symmetric_difference(expected);
-        self.faults.extend(
-            differences.map(|line| format!("only one of replay and the binding has: {line}")),
-        );
+        let missing = expected.difference(&report);
+        let unexpected = report.difference(expected);
         let unasked = self
             .kinds
             .iter()
             .filter(|(_, counts)| counts.by_types + counts.passed_over == 0);
-        self.faults
-            .extend(unasked.map(|(kind, _)| format!("{kind}: nothing was put to the safe types")));
+        let faults: Vec<String> = missing
+            .map(|line| format!("replay expects: {line}"))
+            .chain(unexpected.map(|line| format!("replay does not expect: {line}")))
+            .chain(unasked.map(|(kind, _)| format!("{kind}: nothing was put to the safe types")))
+            .collect();
+        self.faults.extend(faults);
         if self.kinds.is_empty() {
             self.fault("nothing was compared".to_string());
         }
