@@ -183,11 +183,10 @@ impl TradingCalendar {
     /// # Ok::<(), trading_calendar::CalendarError>(())
     /// ```
     pub fn count_trading_days(&self, start: NaiveDate, end: NaiveDate) -> Result<usize> {
-        let (start, end) = (ffi::Date::from(start), ffi::Date::from(end));
-        let ffi::Date { year, month, day } = start;
-        let market = self.market.number();
-        ffi::tc_count_trading_days(market, year, month, day, end.year, end.month, end.day)
-            .answered()
+        let call = ffi::tc_count_trading_days;
+        let (market, end) = (self.market.number(), ffi::Date::from(end));
+        let ffi::Date { year, month, day } = start.into();
+        call(market, year, month, day, end.year, end.month, end.day).answered()
     }
 
     /// Added: the sheet of a month as text `[sheet-output]`, with the errors of `trading_days_in_month`. [`sheet::month_sheet`]
@@ -202,12 +201,10 @@ impl TradingCalendar {
     /// # Ok::<(), trading_calendar::CalendarError>(())
     /// ```
     pub fn month_sheet(&self, year: i32, month: u32) -> Result<String> {
-        // Other years and months have the same error as these beside the calendar, and more digits than a line takes.
+        // A line takes up to 9 digits [sheet-input], and what lies past these bounds has the same error as they have.
         let (year, month) = (year.clamp(0, 10_000), month.min(13));
-        let text = format!(
-            "market={}\nyear={year}\nmonth={month}\n",
-            self.market.number()
-        );
+        let market = self.market.number();
+        let text = format!("market={market}\nyear={year}\nmonth={month}\n");
         let mut bytes = [0; LONGEST_SHEET];
         let count = sheet::month_sheet(text.as_bytes(), &mut bytes)?;
         Ok(bytes.into_iter().take(count).map(char::from).collect())
