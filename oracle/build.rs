@@ -1,6 +1,7 @@
-//! Links the static libraries of the calendar.
+//! Links the static libraries of the calendar, and QuantLib if the bench is to have it.
 
 use std::path::Path;
+use std::process::Command;
 
 fn main() {
     let folder = Path::new(env!("CARGO_MANIFEST_DIR")).join("../target/staticlib");
@@ -10,4 +11,31 @@ fn main() {
     }
     // oracle/run sets it to the sum of both, so that they are linked anew when they change, whatever their times are.
     println!("cargo:rerun-if-env-changed=ORACLE_ARCHIVES");
+    // oracle/run sets it to the version of QuantLib, or to nothing.
+    println!("cargo:rerun-if-env-changed=ORACLE_QUANTLIB");
+    println!("cargo:rustc-check-cfg=cfg(quantlib)");
+    if std::env::var("ORACLE_QUANTLIB").is_ok_and(|version| !version.is_empty()) {
+        link_quantlib();
+    }
+}
+
+fn link_quantlib() {
+    let source = "src/bench_quantlib.cpp";
+    let folder = std::env::var("OUT_DIR").expect("a folder");
+    let object = format!("{folder}/bench_quantlib.o");
+    let archive = format!("{folder}/libbench_quantlib.a");
+    run(Command::new("g++").args(["-O3", "-c", source, "-o", &object]));
+    run(Command::new("ar").args(["rcs", &archive, &object]));
+    println!("cargo:rerun-if-changed={source}");
+    println!("cargo:rerun-if-changed=build.rs");
+    println!("cargo:rustc-link-search=native={folder}");
+    println!("cargo:rustc-link-lib=static=bench_quantlib");
+    println!("cargo:rustc-link-lib=dylib=QuantLib");
+    println!("cargo:rustc-link-lib=dylib=stdc++");
+    println!("cargo:rustc-cfg=quantlib");
+}
+
+fn run(command: &mut Command) {
+    let status = command.status();
+    assert!(status.is_ok_and(|it| it.success()), "failed: {command:?}");
 }

@@ -1,11 +1,10 @@
 //! Where the time of the original goes: parts of its is_trading_day alone, on the same dates.
 
 use crate::original::{calendars, MARKETS};
-use crate::times::{mean, Days, Times, ROUNDS};
+use crate::times::{mean, Times};
 use crate::ANSWERED_YEARS;
 use chrono::{Datelike, NaiveDate};
 use std::collections::HashSet;
-use std::hint::black_box;
 use trading_calendar::markets::canada::holidays::get_canada_holidays;
 use trading_calendar::markets::japan::holidays::get_japan_holidays;
 use trading_calendar::markets::uk::holidays::get_uk_holidays;
@@ -21,20 +20,20 @@ const NAMES: [&str; 5] = [
     "`HashSet::contains`",
 ];
 
-pub fn run(days: &Days) {
+pub fn run(rounds: usize, days: &[NaiveDate]) {
     let markets: Vec<Parts> = calendars()
         .into_iter()
         .zip(MARKETS)
         .map(Parts::new)
         .collect();
     let mut times = vec![vec![Times::default(); 5]; NAMES.len()];
-    for market in (0..ROUNDS).flat_map(|_| 0..5) {
+    for market in (0..rounds).flat_map(|_| 0..5) {
         let parts: &Parts = &markets[market];
-        parts.whole(&mut times[0][market], days);
-        parts.cached(&mut times[1][market], days);
-        parts.cloned(&mut times[2][market], days);
-        parts.locked(&mut times[3][market], days);
-        parts.contained(&mut times[4][market], days);
+        times[0][market].measure(days, |date| parts.calendar.is_trading_day(*date));
+        times[1][market].measure(days, |date| parts.cached(*date));
+        times[2][market].measure(days, |date| parts.set_of(*date).clone());
+        times[3][market].measure(days, |_| parts.cache.len());
+        times[4][market].measure(days, |date| parts.set_of(*date).contains(date));
     }
     print(&times);
 }
@@ -45,9 +44,12 @@ fn print(times: &[Vec<Times>]) {
     );
     println!("| Part | ns, median | least | Share of the whole, least |");
     println!("|---|---|---|---|");
-    let whole = mean(&times[0], Times::least);
+    let whole = mean(times[0].iter(), Times::least);
     for (name, times) in NAMES.iter().zip(times) {
-        let (median, least) = (mean(times, Times::median), mean(times, Times::least));
+        let (median, least) = (
+            mean(times.iter(), Times::median),
+            mean(times.iter(), Times::least),
+        );
         let share = 100.0 * least / whole;
         println!("| {name} | {median:.1} | {least:.1} | {share:.0} % |");
     }
@@ -79,37 +81,9 @@ impl Parts {
         &self.sets[(date.year() - *ANSWERED_YEARS.start() as i32) as usize]
     }
 
-    fn whole(&self, times: &mut Times, days: &Days) {
-        times.measure(days, |(_, date)| {
-            let _ = black_box(self.calendar.is_trading_day(black_box(*date)));
-        });
-    }
-
-    fn cached(&self, times: &mut Times, days: &Days) {
-        times.measure(days, |(_, date)| {
-            let compute = || unreachable!("every year is in the cache");
-            let year = black_box(*date).year();
-            black_box(self.cache.get_or_compute(year, compute));
-        });
-    }
-
-    fn cloned(&self, times: &mut Times, days: &Days) {
-        times.measure(days, |(_, date)| {
-            black_box(self.set_of(black_box(*date)).clone());
-        });
-    }
-
-    fn locked(&self, times: &mut Times, days: &Days) {
-        times.measure(days, |_| {
-            black_box(black_box(&self.cache).len());
-        });
-    }
-
-    fn contained(&self, times: &mut Times, days: &Days) {
-        times.measure(days, |(_, date)| {
-            let date = black_box(*date);
-            black_box(self.set_of(date).contains(&date));
-        });
+    fn cached(&self, date: NaiveDate) -> HashSet<NaiveDate> {
+        let compute = || unreachable!("every year is in the cache");
+        self.cache.get_or_compute(date.year(), compute)
     }
 }
 

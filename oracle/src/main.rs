@@ -5,9 +5,16 @@ mod added_hours;
 mod added_ranges;
 mod added_sheets;
 mod bench;
+mod bench_dates;
+mod bench_hours;
 mod bench_parts;
+#[cfg(quantlib)]
+mod bench_quantlib;
 mod bench_ranges;
+mod bench_report;
+mod bench_sessions;
 mod bench_sheets;
+mod bench_summary;
 mod call;
 mod call_hours;
 mod call_ranges;
@@ -61,13 +68,11 @@ fn main() -> ExitCode {
         ["rows", "neighbours"] => written(rows_neighbours::run()),
         ["rows", "ranges"] => written(rows_ranges::run()),
         ["rows", "sheets"] => written(rows_sheets::run()),
-        ["bench"] => {
-            bench::run();
-            true
-        }
+        ["bench"] => bench::run(501),
+        ["bench", "--quick"] => bench::run(51),
         _ => {
             eprintln!(
-                "usage: oracle compare|overflows|bench|rows holidays|rows hours|rows neighbours|rows ranges|rows sheets"
+                "usage: oracle compare|overflows|bench|bench --quick|rows holidays|rows hours|rows neighbours|rows ranges|rows sheets"
             );
             false
         }

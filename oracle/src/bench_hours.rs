@@ -1,0 +1,128 @@
+//! How long calls on the hours of a day take.
+
+use crate::bench::{Days, ALL_DAYS};
+use crate::bench_report::Report;
+use crate::library::*;
+use crate::original_hours::{self, time};
+use crate::times::in_turn;
+use chrono::{NaiveDate, NaiveTime};
+use std::hint::black_box;
+use trading_calendar::TradingHours;
+
+/// An early close, before the regular end of every market.
+const CLOSE: u32 = 36_000;
+
+/// What is given to a call, with the time that it may be asked about.
+type Original<T> = (T, NaiveTime);
+type Library<T> = (T, u32);
+
+pub fn run(report: &mut Report, days: &Days) {
+    is_open(report, days);
+    on_records(report, days, "trading_hours_new", original_new, library_new);
+    with_early_close(report, days);
+    on_records(
+        report,
+        days,
+        "is_early_close",
+        |it| it.0.is_early_close(),
+        |it| tc_is_early_close(it.0),
+    );
+    on_records(
+        report,
+        days,
+        "market_close",
+        |it| it.0.market_close(),
+        |it| tc_market_close(it.0),
+    );
+    on_records(
+        report,
+        days,
+        "is_open_at",
+        |it| it.0.is_open_at(it.1),
+        |it| tc_is_open_at(it.0, it.1),
+    );
+}
+
+/// The hours of the day in turn, for each of these.
+fn at_hours<A, B>(inputs: impl Iterator<Item = (A, B)>) -> (Vec<Original<A>>, Vec<Library<B>>) {
+    let hours = (0..24).map(|hour| 3600 * hour).cycle();
+    let of_hour = |((original, library), seconds)| {
+        let at = time(seconds).expect("a time");
+        ((original, at), (library, seconds))
+    };
+    inputs.zip(hours).map(of_hour).unzip()
+}
+
+fn is_open(report: &mut Report, days: &Days) {
+    let rounds = report.rounds;
+    let days = days
+        .original
+        .iter()
+        .copied()
+        .zip(days.library.iter().copied());
+    let (originals, libraries): (Vec<Original<NaiveDate>>, Vec<Library<Date>>) = at_hours(days);
+    let title = format!("{ALL_DAYS}, each hour in turn");
+    report.on_markets("is_open", &title, |calendar, market| {
+        in_turn(
+            rounds,
+            (&originals, move |it| {
+                original_hours::is_open(calendar, it.0, it.1)
+            }),
+            (&libraries, move |it| {
+                tc_is_open(market, it.0.year, it.0.month, it.0.day, it.1)
+            }),
+        )
+    });
+}
+
+/// A call on the record that the market has for each day.
+fn on_records<A, B>(
+    report: &mut Report,
+    days: &Days,
+    call: &'static str,
+    original: impl Fn(&Original<TradingHours>) -> A + Copy,
+    library: impl Fn(&Library<Hours>) -> B + Copy,
+) {
+    let rounds = report.rounds;
+    let title = "The records of all days of 2020 to 2030, each hour in turn";
+    report.on_markets(call, title, |calendar, _| {
+        let of_day = |date: &NaiveDate| {
+            let record = original_hours::trading_hours(calendar, *date).hours;
+            (calendar.trading_hours(*date), record)
+        };
+        let (originals, libraries) = at_hours(days.original.iter().map(of_day));
+        in_turn(rounds, (&originals, original), (&libraries, library))
+    });
+}
+
+fn original_new((record, _): &Original<TradingHours>) -> TradingHours {
+    let (pre_market, after_hours) = (record.pre_market.clone(), record.after_hours.clone());
+    TradingHours::new(record.date, record.regular.clone(), pre_market, after_hours)
+}
+
+fn library_new((record, _): &Library<Hours>) -> HoursResult {
+    let Date { year, month, day } = record.date;
+    tc_trading_hours_new(
+        year,
+        month,
+        day,
+        record.regular,
+        record.has_pre_market,
+        record.pre_market,
+        record.has_after_hours,
+        record.after_hours,
+    )
+}
+
+/// The time is the same for every record, as the compiler does not know.
+fn with_early_close(report: &mut Report, days: &Days) {
+    let seconds = black_box(CLOSE);
+    let close = time(seconds).expect("a time");
+    on_records(
+        report,
+        days,
+        "with_early_close",
+        move |it| it.0.clone().with_early_close(close),
+        move |it| tc_with_early_close(it.0, seconds),
+    );
+}
