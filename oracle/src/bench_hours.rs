@@ -1,6 +1,6 @@
 //! How long calls on the hours of a day take.
 
-use crate::bench::{Days, ALL_DAYS};
+use crate::bench_days::{Days, ALL_DAYS};
 use crate::bench_report::Report;
 use crate::library::*;
 use crate::original_hours::{self, time};
@@ -16,28 +16,28 @@ const CLOSE: u32 = 36_000;
 type Original<T> = (T, NaiveTime);
 type Library<T> = (T, u32);
 
+const RECORDS: &str = "The records of all days of 2020 to 2030";
+
 pub fn run(report: &mut Report, days: &Days) {
     is_open(report, days);
-    on_records(report, days, "trading_hours_new", original_new, library_new);
-    with_early_close(report, days);
-    on_records(
-        report,
-        days,
+    let mut records = Records { report, days };
+    records.measure("trading_hours_new", RECORDS, original_new, library_new);
+    with_early_close(&mut records);
+    records.measure(
         "is_early_close",
+        RECORDS,
         |it| it.0.is_early_close(),
         |it| tc_is_early_close(it.0),
     );
-    on_records(
-        report,
-        days,
+    records.measure(
         "market_close",
+        RECORDS,
         |it| it.0.market_close(),
         |it| tc_market_close(it.0),
     );
-    on_records(
-        report,
-        days,
+    records.measure(
         "is_open_at",
+        &format!("{RECORDS}, each hour in turn"),
         |it| it.0.is_open_at(it.1),
         |it| tc_is_open_at(it.0, it.1),
     );
@@ -55,14 +55,10 @@ fn at_hours<A, B>(inputs: impl Iterator<Item = (A, B)>) -> (Vec<Original<A>>, Ve
 
 fn is_open(report: &mut Report, days: &Days) {
     let rounds = report.rounds;
-    let days = days
-        .original
-        .iter()
-        .copied()
-        .zip(days.library.iter().copied());
-    let (originals, libraries): (Vec<Original<NaiveDate>>, Vec<Library<Date>>) = at_hours(days);
-    let title = format!("{ALL_DAYS}, each hour in turn");
-    report.on_markets("is_open", &title, |calendar, market| {
+    let in_both_forms = days.original.iter().zip(&days.library);
+    let (originals, libraries) = at_hours(in_both_forms.map(|(date, day)| (*date, *day)));
+    let inputs = format!("{ALL_DAYS}, each hour in turn");
+    report.on_markets("is_open", &inputs, |calendar, market| {
         in_turn(
             rounds,
             (&originals, move |it| {
@@ -75,24 +71,31 @@ fn is_open(report: &mut Report, days: &Days) {
     });
 }
 
-/// A call on the record that the market has for each day.
-fn on_records<A, B>(
-    report: &mut Report,
-    days: &Days,
-    call: &'static str,
-    original: impl Fn(&Original<TradingHours>) -> A + Copy,
-    library: impl Fn(&Library<Hours>) -> B + Copy,
-) {
-    let rounds = report.rounds;
-    let title = "The records of all days of 2020 to 2030, each hour in turn";
-    report.on_markets(call, title, |calendar, _| {
-        let of_day = |date: &NaiveDate| {
-            let record = original_hours::trading_hours(calendar, *date).hours;
-            (calendar.trading_hours(*date), record)
-        };
-        let (originals, libraries) = at_hours(days.original.iter().map(of_day));
-        in_turn(rounds, (&originals, original), (&libraries, library))
-    });
+/// Of these days.
+struct Records<'a> {
+    report: &'a mut Report,
+    days: &'a Days,
+}
+
+impl Records<'_> {
+    /// A call on the record that each market has for each day.
+    fn measure<A, B>(
+        &mut self,
+        call: &'static str,
+        inputs: &str,
+        original: impl Fn(&Original<TradingHours>) -> A + Copy,
+        library: impl Fn(&Library<Hours>) -> B + Copy,
+    ) {
+        let (rounds, days) = (self.report.rounds, &self.days.original);
+        self.report.on_markets(call, inputs, |calendar, _| {
+            let of_day = |date: &NaiveDate| {
+                let record = original_hours::trading_hours(calendar, *date).hours;
+                (calendar.trading_hours(*date), record)
+            };
+            let (originals, libraries) = at_hours(days.iter().map(of_day));
+            in_turn(rounds, (&originals, original), (&libraries, library))
+        });
+    }
 }
 
 fn original_new((record, _): &Original<TradingHours>) -> TradingHours {
@@ -114,14 +117,13 @@ fn library_new((record, _): &Library<Hours>) -> HoursResult {
     )
 }
 
-/// The time is the same for every record, as the compiler does not know.
-fn with_early_close(report: &mut Report, days: &Days) {
+/// One time for every record. The compiler does not know it.
+fn with_early_close(records: &mut Records) {
     let seconds = black_box(CLOSE);
     let close = time(seconds).expect("a time");
-    on_records(
-        report,
-        days,
+    records.measure(
         "with_early_close",
+        RECORDS,
         move |it| it.0.clone().with_early_close(close),
         move |it| tc_with_early_close(it.0, seconds),
     );

@@ -1,7 +1,7 @@
 //! The library beside QuantLib's calendars. Their holidays are not the original's: only times are compared, and on how many days
 //! they agree is a note.
 
-use crate::bench::{Days, ALL_DAYS};
+use crate::bench_days::{Days, ALL_DAYS};
 use crate::bench_ranges::{count, Ranges};
 use crate::bench_report::Report;
 use crate::bench_summary;

@@ -5,61 +5,50 @@ use crate::library::{tc_session_contains, tc_session_new, Session};
 use crate::original_hours::{self, time};
 use crate::times::in_turn;
 
-/// The starts, the ends and the times that are asked about.
-const HOURS: [u32; 24] = {
-    let (mut hours, mut hour) = ([0; 24], 0);
-    while hour < 24 {
-        hours[hour] = 3600 * hour as u32;
-        hour += 1;
-    }
-    hours
-};
+const HOUR: usize = 3600;
+const QUARTER: usize = HOUR / 4;
 
 pub fn run(report: &mut Report) {
-    let ends = HOURS
-        .iter()
-        .flat_map(|&start| HOURS.map(|end| Session { start, end }));
-    let sessions: Vec<Session> = ends.collect();
-    session_new(report, &sessions);
-    session_contains(report, &sessions);
+    session_new(report);
+    session_contains(report);
 }
 
-/// One in 24 has equal ends, the error 3.
-fn session_new(report: &mut Report, sessions: &[Session]) {
-    let of_original = |session: &Session| original_hours::session(*session).expect("a session");
-    let originals: Vec<_> = sessions.iter().map(of_original).collect();
+/// The times of a day that are so many seconds apart.
+fn times(step: usize) -> impl Iterator<Item = u32> {
+    (0..86_400).step_by(step)
+}
+
+/// With every start and end of these times.
+fn sessions(step: usize) -> impl Iterator<Item = Session> {
+    times(step).flat_map(move |start| times(step).map(move |end| Session { start, end }))
+}
+
+/// One in 96 has equal ends, an error. `ok` spares the original the question whether the error has a text to drop, which the
+/// compiler does not ask where it knows the answer.
+fn session_new(report: &mut Report) {
+    let libraries: Vec<Session> = sessions(QUARTER).collect();
+    let originals: Option<Vec<_>> = sessions(QUARTER).map(original_hours::session).collect();
     let pair = in_turn(
         report.rounds,
-        (&originals, |session| {
-            trading_calendar::Session::new(session.start, session.end)
+        (&originals.expect("sessions"), |it| {
+            trading_calendar::Session::new(it.start, it.end).ok()
         }),
-        (sessions, |session| {
-            tc_session_new(session.start, session.end)
-        }),
+        (&libraries, |it| tc_session_new(it.start, it.end)),
     );
-    report.add("session_new", "All starts and ends by hours", vec![pair]);
+    let inputs = "All starts and ends by quarters of an hour";
+    report.add("session_new", inputs, vec![pair]);
 }
 
-fn session_contains(report: &mut Report, sessions: &[Session]) {
-    let asked = sessions
-        .iter()
-        .flat_map(|session| HOURS.map(|time| (*session, time)));
-    let libraries: Vec<(Session, u32)> = asked.collect();
+fn session_contains(report: &mut Report) {
+    let at_times = |session| times(HOUR).map(move |time| (session, time));
+    let libraries: Vec<(Session, u32)> = sessions(HOUR).flat_map(at_times).collect();
     let of_original = |&(session, at): &_| Some((original_hours::session(session)?, time(at)?));
     let originals: Option<Vec<_>> = libraries.iter().map(of_original).collect();
     let pair = in_turn(
         report.rounds,
-        (
-            &originals.expect("sessions and times"),
-            |(session, time)| session.contains(*time),
-        ),
-        (&libraries, |&(session, time)| {
-            tc_session_contains(session, time)
-        }),
+        (&originals.expect("sessions"), |it| it.0.contains(it.1)),
+        (&libraries, |it| tc_session_contains(it.0, it.1)),
     );
-    report.add(
-        "session_contains",
-        "All starts, ends and times by hours",
-        vec![pair],
-    );
+    let inputs = "All starts, ends and times by hours";
+    report.add("session_contains", inputs, vec![pair]);
 }

@@ -6,7 +6,9 @@ mod added_ranges;
 mod added_sheets;
 mod bench;
 mod bench_dates;
+mod bench_days;
 mod bench_hours;
+mod bench_loop;
 mod bench_parts;
 #[cfg(quantlib)]
 mod bench_quantlib;
@@ -68,8 +70,8 @@ fn main() -> ExitCode {
         ["rows", "neighbours"] => written(rows_neighbours::run()),
         ["rows", "ranges"] => written(rows_ranges::run()),
         ["rows", "sheets"] => written(rows_sheets::run()),
-        ["bench"] => bench::run(501),
-        ["bench", "--quick"] => bench::run(51),
+        ["bench"] => bench::run(1001),
+        ["bench", "--quick"] => bench::run(101),
         _ => {
             eprintln!(
                 "usage: oracle compare|overflows|bench|bench --quick|rows holidays|rows hours|rows neighbours|rows ranges|rows sheets"

@@ -1,0 +1,81 @@
+//! How long calls on a market and a date take.
+
+use crate::bench_report::Report;
+use crate::library::*;
+use crate::original::days_of;
+use crate::times::in_turn;
+use crate::ANSWERED_YEARS;
+use chrono::NaiveDate;
+use trading_calendar::TradingCalendar;
+
+/// All days of 2020 to 2030 in order, in both forms.
+pub struct Days {
+    pub original: Vec<NaiveDate>,
+    pub library: Vec<Date>,
+}
+
+pub const ALL_DAYS: &str = "All days of 2020 to 2030";
+
+impl Days {
+    pub fn all() -> Days {
+        let (library, original) = ANSWERED_YEARS.flat_map(days_of).unzip();
+        Days { original, library }
+    }
+}
+
+pub fn run(report: &mut Report, days: &Days) {
+    use TradingCalendar as Original;
+    on_day(
+        report,
+        days,
+        "is_trading_day",
+        Original::is_trading_day,
+        |market, it| tc_is_trading_day(market, it.year, it.month, it.day),
+    );
+    on_day(
+        report,
+        days,
+        "is_holiday",
+        Original::is_holiday,
+        |market, it| tc_is_holiday(market, it.year, it.month, it.day),
+    );
+    on_day(
+        report,
+        days,
+        "next_trading_day",
+        Original::next_trading_day,
+        |market, it| tc_next_trading_day(market, it.year, it.month, it.day),
+    );
+    on_day(
+        report,
+        days,
+        "previous_trading_day",
+        Original::previous_trading_day,
+        |market, it| tc_previous_trading_day(market, it.year, it.month, it.day),
+    );
+    on_day(
+        report,
+        days,
+        "trading_hours",
+        Original::trading_hours,
+        |market, it| tc_trading_hours(market, it.year, it.month, it.day),
+    );
+}
+
+/// A call on a market and a date.
+fn on_day<A, B>(
+    report: &mut Report,
+    days: &Days,
+    call: &'static str,
+    original: impl Fn(&TradingCalendar, NaiveDate) -> A + Copy,
+    library: impl Fn(u32, &Date) -> B + Copy,
+) {
+    let rounds = report.rounds;
+    report.on_markets(call, ALL_DAYS, |calendar, market| {
+        in_turn(
+            rounds,
+            (&days.original, move |date| original(calendar, *date)),
+            (&days.library, move |date| library(market, date)),
+        )
+    });
+}
