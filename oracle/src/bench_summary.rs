@@ -6,10 +6,12 @@ use std::collections::BTreeSet;
 /// Every call that the library exports is declared here.
 const HEADER: &str = include_str!("../../include/trading_calendar.h");
 
-/// The medians of the rounds, in the mean of the markets, in the order of the header or of the measurements.
+/// The medians of the rounds, in the mean of the markets, and in the market where the library does worst.
 pub fn print(report: &Report) {
-    let other = report.other;
-    println!("\nSummary, {other} and library: medians of {} rounds, mean of the markets, and the market with the worst ratio:\n", report.rounds);
+    let (other, rounds) = (report.other, report.rounds);
+    println!(
+        "\nSummary of {other} and library, medians of {rounds} rounds, mean of the markets:\n"
+    );
     println!("| Call | Inputs | {other}, ns | Library, ns | Library / {other} | Worst market | Its ratio |");
     println!("|---|---|---|---|---|---|---|");
     report.tables.iter().for_each(row);
@@ -23,32 +25,30 @@ fn row(table: &Table) {
     );
 }
 
-/// How many calls are above 1.00. False if an exported call was not measured.
+/// In the order of the header, and how many calls are above 1.00. False if an exported call was not measured.
 pub fn conclude(report: &mut Report) -> bool {
     let calls = exported();
     let place = |table: &Table| calls.iter().position(|call| *call == table.call);
     report.tables.sort_by_key(|table| place(table));
     print(report);
     let of = calls.len();
-    let in_mean = above(report, Table::ratio);
-    let in_a_market = above(report, |table| table.worst().1);
-    println!(
-        "\nAbove 1.00 in the mean of the markets: {} of {of} calls{}",
-        in_mean.len(),
-        listed(&in_mean)
+    let is_measured = |call: &str| report.tables.iter().any(|table| table.call == call);
+    let left_out: Vec<_> = calls
+        .into_iter()
+        .filter(|call| !is_measured(call))
+        .collect();
+    println!();
+    list(
+        "Above 1.00 in the mean of the markets",
+        &above(report, Table::ratio),
+        of,
     );
-    println!(
-        "Above 1.00 in the worst market: {} of {of} calls{}",
-        in_a_market.len(),
-        listed(&in_a_market)
+    list(
+        "Above 1.00 in the worst market",
+        &above(report, |table| table.worst().1),
+        of,
     );
-    let is_measured = |call: &&&str| report.tables.iter().any(|table| table.call == **call);
-    let (measured, left_out): (Vec<&str>, Vec<&str>) = calls.iter().partition(is_measured);
-    println!(
-        "Exported calls measured: {} of {of}{}",
-        measured.len(),
-        listed(&left_out)
-    );
+    list("Not measured", &left_out, of);
     of > 0 && left_out.is_empty()
 }
 
@@ -60,11 +60,13 @@ fn above(report: &Report, ratio: impl Fn(&Table) -> f64) -> Vec<&'static str> {
     calls.into_iter().collect()
 }
 
-fn listed(calls: &[&str]) -> String {
-    match calls {
-        [] => String::new(),
-        _ => format!(": {}", calls.join(", ")),
-    }
+fn list(title: &str, calls: &[&str], of: usize) {
+    let colon = if calls.is_empty() { "" } else { ": " };
+    println!(
+        "{title}: {} of {of} calls{colon}{}",
+        calls.len(),
+        calls.join(", ")
+    );
 }
 
 /// The names of the header that stand before a parenthesis, without tc_.

@@ -74,7 +74,7 @@ fn main() -> ExitCode {
         ["bench", "--quick"] => bench::run(101),
         _ => {
             eprintln!(
-                "usage: oracle compare|overflows|bench|bench --quick|rows holidays|rows hours|rows neighbours|rows ranges|rows sheets"
+                "usage: oracle compare|overflows|bench [--quick]|rows holidays|rows hours|rows neighbours|rows ranges|rows sheets"
             );
             false
         }
