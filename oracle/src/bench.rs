@@ -2,10 +2,11 @@
 //!
 //! Both sides are asked the same in the same loop, `Times::measure`, in turn. Each gets its own form of the inputs, made before and
 //! kept apart: the original `NaiveDate`, `NaiveTime`, `TradingHours` and a calendar, as its user holds them, the library numbers
-//! and the structs of its header. The original is a dependency in a release build without further settings: where the compiler puts a
-//! function of it into the loop, as it does with the smallest, that is what its user gets. A record is copied once on both sides
-//! where the call takes it by value: 52 bytes for each such call of the library, a clone for `with_early_close` of the original.
-//! What the original allocates is freed in the loop. What the loop itself takes is in the times of both sides, and printed first.
+//! and the structs of its header. The original is a dependency in a release build without further settings: where the compiler
+//! puts a function of it into the loop, as it does with the smallest, that is what its user gets. A record is copied once on both
+//! sides where the call takes it by value: 52 bytes for each such call of the library, a clone for `with_early_close` of the
+//! original. What the original allocates is freed in the loop. What the loop itself takes is in the times of both sides, and
+//! printed first.
 
 use crate::bench_days::Days;
 #[cfg(quantlib)]
