@@ -14,6 +14,15 @@ static_assert(sizeof(Date) == 8 && std::is_trivially_destructible<Date>::value, 
 
 extern "C" {
 
+// Whether this build has the slower dates, which have a time of the day.
+bool quantlib_has_microseconds() {
+#ifdef QL_HIGH_RESOLUTION_DATE
+    return true;
+#else
+    return false;
+#endif
+}
+
 // 0 NYSE, 1 NASDAQ, 2 LSE, 3 TSE, 4 TSX.
 const Calendar *quantlib_calendar(uint32_t market) {
     static const Calendar calendars[] = {UnitedStates(UnitedStates::NYSE), UnitedStates(UnitedStates::NYSE),

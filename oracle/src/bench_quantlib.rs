@@ -9,8 +9,9 @@ use crate::library::{tc_is_trading_day, tc_next_trading_day, Date};
 use crate::original::MARKETS;
 use crate::times::{in_turn, Pair};
 
-/// A calendar of QuantLib.
-enum Calendar {}
+/// A calendar of QuantLib, known by its address alone.
+#[repr(C)]
+struct Calendar([u8; 0]);
 
 /// A date of QuantLib, made before the measurement as its user holds it.
 #[repr(C, align(8))]
@@ -19,6 +20,7 @@ struct QuantLibDate([u8; 8]);
 
 // Of bench_quantlib.cpp. A measured call is one call, as it is for the library.
 unsafe extern "C" {
+    safe fn quantlib_has_microseconds() -> bool;
     safe fn quantlib_calendar(market: u32) -> &'static Calendar;
     safe fn quantlib_make_date(date: &mut QuantLibDate, year: u32, month: u32, day: u32);
     safe fn quantlib_is_business_day(calendar: &Calendar, date: &QuantLibDate) -> bool;
@@ -35,7 +37,11 @@ unsafe extern "C" {
 }
 
 pub fn run(rounds: usize, days: &Days) {
-    println!("\nThe library beside QuantLib {}:", env!("ORACLE_QUANTLIB"));
+    let version = env!("ORACLE_QUANTLIB");
+    let unit = ["days", "microseconds"][usize::from(quantlib_has_microseconds())];
+    println!(
+        "\nThe library beside QuantLib {version}, in whose build a date is a count of {unit}:"
+    );
     let mut report = Report::new("QuantLib", rounds);
     let days = &days.library;
     let dates: Vec<QuantLibDate> = days.iter().map(of_date).collect();
