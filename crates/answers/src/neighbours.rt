@@ -2,8 +2,8 @@
 ghost use mathlib.Core.Path.{_≡_};
 ghost use Rattle.answers.specs.Answers.{tradingDayAnswer};
 use crate::flag;
-use range_calls::TradingDayResult;
 use gregorian::Date;
+use range_calls::TradingDayResult;
 
 // tc_trading_day_result of the header, [host-answers]: error is 0 and the rest is the answer; or error is a number of [errors], and
 // every other field is 0 [reading-nothing] [reading-error-6].

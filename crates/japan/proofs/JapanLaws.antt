@@ -19,8 +19,8 @@ use Rattle.utils.specs.Weekday.{nthWeekdayOfMonth}
 use Rattle.utils.proofs.WeekdayLaws.{when-day, first-near, nth-weekday}
 use Rattle.days.specs.Days.{contains, insert, insertIf, insertDay, isDay, isBetween}
 use Rattle.days.specs.Requires.{everyYearHas, everyBetween}
-use Rattle.japan.specs.Japan.{substituteDay, addWithSubstitute, addDayWithSubstitute, vernalDays, autumnalDays, equinox, applyGoldenWeekRules, getJapanHolidays, isWithSubstitute, isDayWithSubstitute, isBridgeDay, isHolidayToMarch, isGoldenWeekHoliday, isHolidayFromJuly, isJapanHoliday}
-use Rattle.days.proofs.DayLaws.{or-assoc, or-false, contains-none, contains-insert, contains-if, not-between, every-year-date}
+use Rattle.japan.specs.Japan.{substituteDay, addWithSubstitute, addDayWithSubstitute, vernalDays, autumnalDays, equinox, calculateAutumnalEquinox, applyGoldenWeekRules, getJapanHolidays, isWithSubstitute, isDayWithSubstitute, isBridgeDay, isHolidayToMarch, isGoldenWeekHoliday, isHolidayFromJuly, isJapanHoliday}
+use Rattle.days.proofs.DayLaws.{or-assoc, or-swap, or-false, contains-none, contains-insert, contains-if, not-between, every-year-date}
 
 -- The equinoxes: what is computed of a table holds of each of its days.
 between : (low high : ℕ) (list : List ℕ) (k i : ℕ) → everyBetween low high list k ≡ true → i < k → (low ≤ getD list i 0) × (getD list i 0 ≤ high)
@@ -170,6 +170,20 @@ golden {ds} {test} {a} y s h =
       same = λ n. simp (contains-if, contains-insert, i .same n) (without (test n || isWithSubstitute (dayNumber y 5 5) n) _ _ _ _ _ (substituted y n (test n) (eqb (weekdayOf (dayNumber y 5 3)) friday)));
       high = up-to-if _ _ _ b (up-to-if _ _ _ b (up-to-if _ _ _ b (up-to-if _ _ _ b (up-to-insert _ _ b (i .high) (day-order y 5 4 6 (lit≤ tt))) (day-order y 5 2 6 (lit≤ tt))) (omega arith)) (omega arith)) (omega arith);
     }
+
+-- The code asks for those of July to October that are on a Monday together.
+pub mondays-apart : (y n : ℕ) → (isDay (nthWeekdayOfMonth y 7 monday 3) n || isDay (nthWeekdayOfMonth y 9 monday 3) n || isDay (nthWeekdayOfMonth y 10 monday 2) n || isWithSubstitute (dayNumber y 8 11) n || isDayWithSubstitute (calculateAutumnalEquinox y) n || isWithSubstitute (dayNumber y 11 3) n || isWithSubstitute (dayNumber y 11 23) n || eqb n (dayNumber y 12 31)) ≡ isHolidayFromJuly y n
+unfolding isHolidayFromJuly
+mondays-apart y n =
+    let nth : ℕ → ℕ → Bool = λ m k. isDay (nthWeekdayOfMonth y m monday k) n in
+    let fixed : ℕ → ℕ → Bool = λ m d. isWithSubstitute (dayNumber y m d) n in
+    ap (λ (t : Bool). t || fixed 11 3 || fixed 11 23 || eqb n (dayNumber y 12 31))
+    (apart (nth 7 3) (fixed 8 11) (nth 9 3) (isDayWithSubstitute (calculateAutumnalEquinox y) n) (nth 10 2))
+  where
+    apart : (m f r a s : Bool) → (m || r || s || f || a) ≡ (m || f || r || a || s)
+    apart m f r a s =
+        let before-r = ap (λ (t : Bool). t || a) (or-swap m (r || s) f) in
+        (simp or-assoc at before-r) ∙ or-swap (m || f || r) s a
 
 -- A day but 2 to 6 May is no bridge day.
 pub not-bridge-day : (y n a b : ℕ) → a ≡ dayNumber y 5 2 → b ≡ dayNumber y 5 6 → isBetween a b n ≡ false → false ≡ isBridgeDay y n

@@ -1,7 +1,7 @@
 // The holidays of TSE, as src/markets/japan/holidays.rs has them: docs/SCOPE.md [tse-holidays]. A substitute is always the
 // next day: the Rust places it before any later holiday is in its set.
 ghost use mathlib.Core.Path.{_≡_};
-ghost use mathlib.Core.Bool.{true};
+ghost use mathlib.Core.Bool.{true, _||_};
 ghost use Prim.Native.Nat.{_≤_};
 ghost use Rattle.gregorian.specs.Calendar.{monday, lastYear, lastDay, dayNumber};
 ghost use Rattle.utils.specs.Weekday.{nthWeekdayOfMonth};
@@ -58,14 +58,22 @@ fn is_holiday_from_july(year: u32, n: u32) -> bool
     requires { ⌜ (1 ≤ year) × (year ≤ lastYear) ⌝ }
     ensures { λ r. ⌜ r ≡ isHolidayFromJuly year n ⌝ }
 {
-    is_marine_day(year, n)
+    is_monday_holiday(year, n)
         | is_fixed_holiday(year, 8, 11, n)
-        | is_respect_for_aged_day(year, n)
         | is_equinox(AUTUMNAL_DAYS, year, 9, n)
-        | is_health_and_sports_day(year, n)
         | is_fixed_holiday(year, 11, 3, n)
         | is_fixed_holiday(year, 11, 23, n)
         | (n == fixed_day(year, 12, 31))
+}
+
+// Those of July to October that are always on a Monday; on another day none of them is computed.
+fn is_monday_holiday(year: u32, n: u32) -> bool
+    ensures { λ r. ⌜ r ≡ (isDay (nthWeekdayOfMonth year 7 monday 3) n || isDay (nthWeekdayOfMonth year 9 monday 3) n || isDay (nthWeekdayOfMonth year 10 monday 2) n) ⌝ }
+{
+    if gregorian::weekday(n) != MONDAY {
+        return false;
+    }
+    is_marine_day(year, n) | is_respect_for_aged_day(year, n) | is_health_and_sports_day(year, n)
 }
 
 // A day that every year has, or its substitute.
@@ -121,7 +129,7 @@ fn is_bridge_day(year: u32, n: u32) -> bool
         | ((gregorian::weekday(may_4) == SUNDAY) & (n == may_6))
 }
 
-// The 2nd Monday of January. It and the next three are not computed on another weekday.
+// The 2nd Monday of January. On another weekday it is not computed.
 fn is_coming_of_age_day(year: u32, n: u32) -> bool
     ensures { λ r. ⌜ r ≡ isDay (nthWeekdayOfMonth year 1 monday 2) n ⌝ }
 {
@@ -138,9 +146,6 @@ fn is_coming_of_age_day(year: u32, n: u32) -> bool
 fn is_marine_day(year: u32, n: u32) -> bool
     ensures { λ r. ⌜ r ≡ isDay (nthWeekdayOfMonth year 7 monday 3) n ⌝ }
 {
-    if gregorian::weekday(n) != MONDAY {
-        return false;
-    }
     let OptionalDay::Day(marine_day) = nth_weekday_of_month(year, 7, MONDAY, 3) else {
         return false;
     };
@@ -151,9 +156,6 @@ fn is_marine_day(year: u32, n: u32) -> bool
 fn is_respect_for_aged_day(year: u32, n: u32) -> bool
     ensures { λ r. ⌜ r ≡ isDay (nthWeekdayOfMonth year 9 monday 3) n ⌝ }
 {
-    if gregorian::weekday(n) != MONDAY {
-        return false;
-    }
     let OptionalDay::Day(respect_for_aged_day) = nth_weekday_of_month(year, 9, MONDAY, 3) else {
         return false;
     };
@@ -164,9 +166,6 @@ fn is_respect_for_aged_day(year: u32, n: u32) -> bool
 fn is_health_and_sports_day(year: u32, n: u32) -> bool
     ensures { λ r. ⌜ r ≡ isDay (nthWeekdayOfMonth year 10 monday 2) n ⌝ }
 {
-    if gregorian::weekday(n) != MONDAY {
-        return false;
-    }
     let OptionalDay::Day(sports_day) = nth_weekday_of_month(year, 10, MONDAY, 2) else {
         return false;
     };
