@@ -20,12 +20,11 @@ static void print(const char *name, tc_optional_date answer) {
 }
 
 static void print_moving_days(uint32_t year) {
-    enum { MONDAY = 0, THURSDAY = 3 };
     print("Good Friday", tc_calculate_good_friday(year));
     print("Easter Sunday", tc_calculate_easter(year));
     print("Easter Monday", tc_calculate_easter_monday(year));
-    print("last Monday of May", tc_last_weekday_of_month(year, 5, MONDAY));
-    print("4th Thursday of November", tc_nth_weekday_of_month(year, 11, THURSDAY, 4));
+    print("last Monday of May", tc_last_weekday_of_month(year, 5, TC_MONDAY));
+    print("4th Thursday of November", tc_nth_weekday_of_month(year, 11, TC_THURSDAY, 4));
 }
 
 static unsigned long count_trading_days(uint32_t market, uint32_t year) {
@@ -73,7 +72,7 @@ static void print_regular_hours(uint32_t market, uint32_t year) {
  * years. */
 static void print_neighbour(const char *name, tc_trading_day_result answer) {
     printf("%s: ", name);
-    if (answer.error != 0) {
+    if (answer.error != TC_OK) {
         printf("error %lu\n", (unsigned long)answer.error);
         return;
     }
@@ -81,12 +80,12 @@ static void print_neighbour(const char *name, tc_trading_day_result answer) {
     printf(", distance %lu%s\n", (unsigned long)answer.distance, answer.outside == 1 ? ", outside 2020 to 2030" : "");
 }
 
-/* No month has more than 23 trading days. With error 9, too few bytes, count would be how many it takes. */
+/* With TC_BUFFER_TOO_SMALL count would be how many bytes it takes. */
 static void print_month(const char *name, uint32_t market, uint32_t year, uint32_t month) {
-    uint8_t days[23];
+    uint8_t days[TC_MONTH_BUFFER_LENGTH];
     tc_count_result answer = tc_trading_days_in_month(market, year, month, days, sizeof days);
     printf("%s:", name);
-    if (answer.error != 0) {
+    if (answer.error != TC_OK) {
         printf(" error %lu\n", (unsigned long)answer.error);
         return;
     }
@@ -95,22 +94,22 @@ static void print_month(const char *name, uint32_t market, uint32_t year, uint32
 }
 
 static void print_nyse(uint32_t year) {
-    enum { NYSE = 0, TEN = 36000 };
+    enum { TEN = 36000 };
     printf("NYSE closes early on: ");
-    print_days(trades_and_closes_early, NYSE, year);
-    printf("NYSE on Dec 24 at 10:00: %s\n", tc_is_open(NYSE, year, 12, 24, TEN).value == 1 ? "open" : "closed");
-    print_month("NYSE, trading days of Dec", NYSE, year, 12);
-    print_neighbour("NYSE, last trading day before Dec 25", tc_previous_trading_day(NYSE, year, 12, 25));
-    print_neighbour("NYSE, next trading day after Dec 25", tc_next_trading_day(NYSE, year, 12, 25));
+    print_days(trades_and_closes_early, TC_NYSE, year);
+    printf("NYSE on Dec 24 at 10:00: %s\n", tc_is_open(TC_NYSE, year, 12, 24, TEN).value == 1 ? "open" : "closed");
+    print_month("NYSE, trading days of Dec", TC_NYSE, year, 12);
+    print_neighbour("NYSE, last trading day before Dec 25", tc_previous_trading_day(TC_NYSE, year, 12, 25));
+    print_neighbour("NYSE, next trading day after Dec 25", tc_next_trading_day(TC_NYSE, year, 12, 25));
 }
 
 static void print_markets(uint32_t year) {
     static const char *const names[] = {"NYSE", "NASDAQ", "LSE", "TSE", "TSX"};
-    if (tc_is_holiday(0, year, 1, 1).error != 0) {
+    if (tc_is_holiday(TC_NYSE, year, 1, 1).error != TC_OK) {
         printf("trading days and holidays: 2020 to 2030 only\n");
         return;
     }
-    for (uint32_t market = 0; market < 5; market++) {
+    for (uint32_t market = TC_NYSE; market <= TC_TSX; market++) {
         printf("%-6s ", names[market]);
         print_regular_hours(market, year);
         printf("; %lu trading days; holidays: ", count_trading_days(market, year));

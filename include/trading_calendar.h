@@ -1,4 +1,8 @@
-/* The calls of the trading calendar, for C. Labels in brackets, as [easter], are those of docs/SCOPE.md. */
+/* The calls of the trading calendar, for C and C++. Labels in brackets, as [easter], are those of docs/SCOPE.md.
+ *
+ * Every call takes any numbers and any text. It allocates nothing and keeps no state, so threads may call at the same time. Structs
+ * are given and returned by value; a call writes to the buffer that it is lent and to nothing else. A time is a second of the day,
+ * 0 to 86399, on the exchange's own clock; no call knows time zones, the host converts [time] [left-out]. */
 #ifndef TRADING_CALENDAR_H
 #define TRADING_CALENDAR_H
 
@@ -9,13 +13,37 @@
 extern "C" {
 #endif
 
+/* The markets [markets]. */
+enum { TC_NYSE = 0, TC_NASDAQ = 1, TC_LSE = 2, TC_TSE = 3, TC_TSX = 4 };
+
+/* The weekdays [weekday-numbers]. */
+enum { TC_MONDAY = 0, TC_TUESDAY = 1, TC_WEDNESDAY = 2, TC_THURSDAY = 3, TC_FRIDAY = 4, TC_SATURDAY = 5, TC_SUNDAY = 6 };
+
+/* No error, and the errors [errors]. A call gives the first that applies, in the order that its comment has them in. */
+enum {
+    TC_OK = 0,
+    TC_DATE_OUT_OF_RANGE = 1,        /* year: it is outside 2020 to 2030 */
+    TC_INVALID_DATE_CALCULATION = 2, /* month: it is not 1 to 12 */
+    TC_INVALID_SESSION = 3,          /* session: its ends are equal */
+    TC_INVALID_TIME = 4,             /* early close: it is not before the regular end */
+    TC_INVALID_DATE = 5,             /* date: there is no such date */
+    TC_NO_TRADING_DAY_FOUND = 6,     /* trading day: there is none left */
+    TC_TIME_OUT_OF_RANGE = 7,        /* time: it is not 0 to 86399 */
+    TC_UNKNOWN_MARKET = 8,           /* market: it is not 0 to 4 */
+    TC_BUFFER_TOO_SMALL = 9,         /* buffer: the answer does not fit */
+    TC_MALFORMED_TEXT = 10           /* text: it is not of the form */
+};
+
+/* How many bytes are enough for the trading days of any month, and for any month sheet. */
+enum { TC_MONTH_BUFFER_LENGTH = 23, TC_SHEET_BUFFER_LENGTH = 104 };
+
 /* A Gregorian date of the years 1 to 9999 [date], or 0, 0, 0 in an answer without one. */
 typedef struct {
     uint32_t year, month, day;
 } tc_date;
 
-/* The seconds of the day at which a session starts and ends, each 0 to 86399 [time]. Over midnight the end is before the start;
- * with equal ends the session is the whole day [contains]. */
+/* The times at which a session starts and ends. Over midnight the end is before the start; with equal ends the session is the whole
+ * day [contains]. */
 typedef struct {
     uint32_t start, end;
 } tc_session;
@@ -33,57 +61,52 @@ typedef struct {
     uint32_t early_close;
 } tc_hours;
 
-/* found is 1 and date is the answer, or every field is 0: none [host-answers]. */
+/* In an answer error is TC_OK and the other fields are the answer; or error is one of the errors, and every other field is 0 but
+ * for those that a comment names here [host-answers]. */
+
+/* found is 1 and date is the answer, or every field is 0: none. */
 typedef struct {
     uint32_t found;
     tc_date date;
 } tc_optional_date;
 
-/* error is 0 and value is 1 for yes or 0 for no; or error is a number of [errors], and with error 1 date is the date that was
- * given. Every other field is 0 [host-answers]. */
+/* value is 1 for yes or 0 for no, and date is 0. With error 1 date is the date that was given. */
 typedef struct {
     uint32_t error, value;
     tc_date date;
 } tc_bool_result;
 
-/* error is 0, date is the answer, and distance is how many days it is from the date given, 1 or more [distance]. outside is 1 if
- * the date given or the answer is outside 2020 to 2030, else 0 [outside]: the rules are followed there too, but made for these years,
- * and TSE for one has no equinox days in others. Or error is a number of [errors], and every other field is 0, outside too
- * [reading-nothing] [reading-error-6]. */
+/* date is the answer, and distance is how many days it is from the date given, 1 or more [distance]. outside is 1 if either
+ * date is outside 2020 to 2030, else 0 [outside]: the rules are followed there too, but made for these years, and TSE for one has no
+ * equinox days in others. */
 typedef struct {
     uint32_t error;
     tc_date date;
     uint32_t distance, outside;
 } tc_trading_day_result;
 
-/* error is 0 and count is how many trading days there are, or how many bytes the sheet has. Or error is a number of [errors]: with
- * error 1 date is the start of the count or the 1st of the month (1970-01-01 where there is none), with error 9 count is how many
- * bytes the list or the sheet takes. Every other field is 0 [host-answers]. */
+/* count is how many trading days there are, or how many bytes the sheet has, and date is 0. With error 9 count is how many bytes
+ * the list or the sheet takes. With error 1 date is the start of the count or the 1st of the month, 1970-01-01 where there is no
+ * 1st [month-error-date]. */
 typedef struct {
     uint32_t error, count;
     tc_date date;
 } tc_count_result;
 
-/* error is 0 and seconds is a time of the day; or error is a number of [errors], and seconds is 0. */
+/* seconds is a time. */
 typedef struct {
     uint32_t error, seconds;
 } tc_time_result;
 
-/* error is 0 and session is the answer; or error is a number of [errors], and every other field is 0. */
 typedef struct {
     uint32_t error;
     tc_session session;
 } tc_session_result;
 
-/* error is 0 and hours is the answer; or error is a number of [errors], and every other field is 0. */
 typedef struct {
     uint32_t error;
     tc_hours hours;
 } tc_hours_result;
-
-/* Every call takes any numbers at all. A weekday is 0 for Monday to 6 for Sunday [weekday-numbers]. A market is 0 NYSE,
- * 1 NASDAQ, 2 LSE, 3 TSE or 4 TSX [markets]. A time is a second of the day, 0 to 86399, on the exchange's own clock; no call knows
- * time zones, the host converts [time] [left-out]. Of the errors that a call names, the first that applies is the answer. */
 
 /* The first such weekday of the month, and nth - 1 weeks on [nth-weekday]. None if that day's month has another number
  * (its year is not compared), if nth is 0, or if the weekday, the month, the year or the answer is out of range. */
@@ -93,90 +116,80 @@ tc_optional_date tc_nth_weekday_of_month(uint32_t year, uint32_t month, uint32_t
  * out of range. */
 tc_optional_date tc_last_weekday_of_month(uint32_t year, uint32_t month, uint32_t weekday);
 
-/* Easter Sunday of the year [easter]. None outside the years 1 to 9999. */
+/* Easter Sunday of the year [easter], the Friday two days before it [good-friday], and the Monday after it [easter-monday]. None
+ * outside the years 1 to 9999. */
 tc_optional_date tc_calculate_easter(uint32_t year);
-
-/* The Friday two days before Easter Sunday [good-friday]. None outside the years 1 to 9999. */
 tc_optional_date tc_calculate_good_friday(uint32_t year);
-
-/* The Monday after Easter Sunday [easter-monday]. None outside the years 1 to 9999. */
 tc_optional_date tc_calculate_easter_monday(uint32_t year);
 
-/* Whether the date is no Saturday, no Sunday and no holiday of the market [trading-day]. Error 8 if there is no such market,
- * 5 if there is no such date, 1 if its year is outside 2020 to 2030 [year-check]. */
+/* Whether the date is no Saturday, no Sunday and no holiday of the market [trading-day]. Errors: 8 market, 5 date, 1 year
+ * [year-check]. */
 tc_bool_result tc_is_trading_day(uint32_t market, uint32_t year, uint32_t month, uint32_t day);
 
-/* Whether the date is a holiday of the market, be it on a weekend or not [is-holiday]. The same errors. */
+/* Whether the date is a holiday of the market, be it on a weekend or not [is-holiday]. Errors: 8 market, 5 date, 1 year. */
 tc_bool_result tc_is_holiday(uint32_t market, uint32_t year, uint32_t month, uint32_t day);
 
-/* The first trading day of the market after a date of any year, be that a trading day or not [next]. There is no error 1: where
- * tc_is_trading_day would give it, on the date or on the answer, outside is 1. Error 8 if there is no such market, 5 if there is no
- * such date, 6 if no trading day is left up to 9999-12-31. */
-tc_trading_day_result tc_next_trading_day(uint32_t market, uint32_t year, uint32_t month, uint32_t day);
-
-/* The last trading day of the market before a date of any year [previous]. The same errors, 6 if no trading day is left down to
+/* The first trading day of the market after a date of any year, be that a trading day or not [next], and the last one before it
+ * [previous]. There is no error 1: outside is 1 instead. Errors: 8 market, 5 date, 6 trading day, up to 9999-12-31 or down to
  * 0001-01-01. */
+tc_trading_day_result tc_next_trading_day(uint32_t market, uint32_t year, uint32_t month, uint32_t day);
 tc_trading_day_result tc_previous_trading_day(uint32_t market, uint32_t year, uint32_t month, uint32_t day);
 
-/* Writes the trading days of the month in ascending order, one byte for each, from the start of out, and answers how many
- * [month-list]. 23 bytes are enough for every month. out is not null, also if out_length is 0 [host-calls]. Bytes past the answer
- * stay as they were, and with an error all do [error-writes-nothing]. Error 8 if there is no such market; 1 if the year is outside
- * 2020 to 2030, with 1970-01-01 where the year and the month have no 1st [month-error-date]; 2 if the month is not 1 to 12; 9 if
- * the days do not fit into out_length bytes. */
+/* Writes the trading days of the month, ascending, one byte each, from the start of out, and answers how many [month-list].
+ * TC_MONTH_BUFFER_LENGTH bytes are enough. out is not null, also if out_length is 0 [host-calls]. Bytes past the answer stay as
+ * they were, and with an error all do [error-writes-nothing]. Errors: 8 market, 1 year, 2 month, 9 buffer. */
 tc_count_result tc_trading_days_in_month(uint32_t market, uint32_t year, uint32_t month, uint8_t *out, size_t out_length);
 
-/* How many trading days the market has from the start to the end, both included; 0 if the start is after the end [count]. Error 8
- * if there is no such market, 5 if the start or the end is no date, 1 if the start's year is below 2020 or the end's above 2030. */
+/* How many trading days the market has from the start to the end, both included; 0 if the start is after the end [count]. Errors:
+ * 8 market, 5 date, 1 year, and that only if the start's is below 2020 or the end's above 2030. */
 tc_count_result tc_count_trading_days(uint32_t market, uint32_t start_year, uint32_t start_month, uint32_t start_day,
                                       uint32_t end_year, uint32_t end_month, uint32_t end_day);
 
-/* The hours of the market on a date of any year, be it a trading day or not [trading-hours], with the early closes of the US
- * [early-close]: there regular.end stays, early_close is set, and after_hours begin with it; tc_market_close gives the close.
- * Error 8 if there is no such market, 5 if there is no such date. */
+/* The hours of the market on a date of any year, be it a trading day or not [trading-hours]. On an early close of the US
+ * [early-close] regular.end stays, early_close is set, and after_hours begin with it; tc_market_close gives the close. Errors:
+ * 8 market, 5 date. */
 tc_hours_result tc_trading_hours(uint32_t market, uint32_t year, uint32_t month, uint32_t day);
 
 /* Whether the date is a trading day of the market and its hours on that date are open at the time [is-open]. Pre-market and
  * after-hours count as open: the US is open from 14400 to 72000 on every trading day, early closes too. For the regular session
- * alone compare with regular.start and tc_market_close. Error 8 if there is no such market, 5 if there is no such date, 7 if there
- * is no such time, 1 if the year is outside 2020 to 2030. */
+ * alone compare with regular.start and tc_market_close. Errors: 8 market, 5 date, 7 time, 1 year. */
 tc_bool_result tc_is_open(uint32_t market, uint32_t year, uint32_t month, uint32_t day, uint32_t time);
 
-/* The session from start to end, over midnight if the end is before the start [session-new]. Error 7 if there is no such time,
- * 3 if both are equal. */
+/* The session from start to end, over midnight if the end is before the start [session-new]. Errors: 7 time, 3 session. */
 tc_session_result tc_session_new(uint32_t start, uint32_t end);
 
 /* Whether the session contains the time: its start is in it, its end is not, and with equal ends every time is [contains].
- * Error 7 if one of the three is no time. */
+ * Errors: 7 time, for any of the three. */
 tc_bool_result tc_session_contains(tc_session session, uint32_t time);
 
-/* The record of these parts, with no early close [hours-new]. A session whose has_ number is 0 is absent. Error 5 if there is no
- * such date, 7 if the regular session or one that is present has a number that is no time. */
+/* The calls on an hours record have error 5 for its date, and 7 for a time in its regular session or in a part that is present. */
+
+/* The record of these parts, with no early close [hours-new]. A session is absent if its has_ number is 0. Errors: 5 date,
+ * 7 time. */
 tc_hours_result tc_trading_hours_new(uint32_t year, uint32_t month, uint32_t day, tc_session regular, uint32_t has_pre_market,
                                      tc_session pre_market, uint32_t has_after_hours, tc_session after_hours);
 
-/* The record with its early close set to the time [with-early-close]. Error 5 if the record's date is none, 7 if the time or one
- * present in the record, an earlier early close too, is none, 4 if the time is not before the regular end. */
+/* The record with its early close set to the time [with-early-close]. Errors: 5 date, 7 time, for an earlier early close too,
+ * 4 early close. */
 tc_hours_result tc_with_early_close(tc_hours hours, uint32_t time);
 
-/* Whether the record has an early close [is-early-close]. Error 5 if its date is none, 7 if a time present in it is none. */
+/* Whether the record has an early close [is-early-close]. Errors: 5 date, 7 time. */
 tc_bool_result tc_is_early_close(tc_hours hours);
 
-/* The early close if the record has one, else its regular end [market-close]. The same errors. */
+/* The early close if the record has one, else its regular end [market-close]. Errors: 5 date, 7 time. */
 tc_time_result tc_market_close(tc_hours hours);
 
 /* Whether the record is open at the time: in its pre-market; from its regular start until its market close, though never over
- * midnight; or in its after-hours, if not before an early close [is-open-at]. Holidays are not consulted. The same errors, with 7
- * also for the time. */
+ * midnight; or in its after-hours, if not before an early close [is-open-at]. Holidays are not consulted. Errors: 5 date,
+ * 7 time. */
 tc_bool_result tc_is_open_at(tc_hours hours, uint32_t time);
 
 /* Reads a market, a year and a month from text, as "market=4\nyear=2022\nmonth=12\n": these three lines in this order, each with 1
  * to 9 decimal digits and a line feed, and no other byte [sheet-input]. Writes the sheet of the month from the start of out, with
  * no 0 byte after it: the three lines, count= with how many trading days there are, and days= with the days, ascending, with commas
- * between [sheet-output]. Answers how many bytes it wrote [sheet-return]; 104 are enough for every sheet. Neither pointer is null,
- * also if a length is 0, and text and out do not overlap [host-calls]. Bytes past the sheet stay as they were, and with an error
- * all do [error-writes-nothing]. Error 10 if the text is not of this form; 8 if there is no such market; 1 if the year is outside
- * 2020 to 2030, with 1970-01-01 where the year and the month have no 1st [month-error-date]; 2 if the month is not 1 to 12; 9 if
- * the sheet does not fit into out_length bytes. */
+ * between [sheet-output]. Answers how many bytes it wrote [sheet-return]; TC_SHEET_BUFFER_LENGTH are enough. Neither pointer is
+ * null, also if a length is 0, and text and out do not overlap [host-calls]. Bytes past the sheet stay as they were, and with an
+ * error all do [error-writes-nothing]. Errors: 10 text, 8 market, 1 year, 2 month, 9 buffer. */
 tc_count_result tc_month_sheet(const uint8_t *text, size_t text_length, uint8_t *out, size_t out_length);
 
 #ifdef __cplusplus
