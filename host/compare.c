@@ -22,9 +22,38 @@ numbers of_bool(tc_bool_result a) {
     return list;
 }
 
+numbers of_trading_day(tc_trading_day_result a) {
+    numbers list = {6, {a.error, a.date.year, a.date.month, a.date.day, a.distance, a.outside}};
+    return list;
+}
+
 numbers of_count(tc_count_result a) {
     numbers list = {5, {a.error, a.count, a.date.year, a.date.month, a.date.day}};
     return list;
+}
+
+numbers of_time(tc_time_result a) {
+    numbers list = {2, {a.error, a.seconds}};
+    return list;
+}
+
+numbers of_session(tc_session_result a) {
+    numbers list = {3, {a.error, a.session.start, a.session.end}};
+    return list;
+}
+
+numbers of_hours(tc_hours_result a) { return of_record(a.error, a.hours); }
+
+numbers of_record(uint32_t first, tc_hours h) {
+    numbers list = {14, {first, h.date.year, h.date.month, h.date.day, h.has_pre_market, h.pre_market.start, h.pre_market.end,
+                         h.regular.start, h.regular.end, h.has_after_hours, h.after_hours.start, h.after_hours.end,
+                         h.has_early_close, h.early_close}};
+    return list;
+}
+
+tc_hours record_of(const uint32_t *f) {
+    tc_hours h = {{f[0], f[1], f[2]}, f[3], {f[4], f[5]}, {f[6], f[7]}, f[8], {f[9], f[10]}, f[11], f[12]};
+    return h;
 }
 
 static int same(numbers a, numbers b) {
@@ -62,12 +91,16 @@ int finish(const tally *calls, int count) {
 }
 
 /* By xorshift. */
+uint32_t draw(uint32_t *sequence) {
+    *sequence ^= *sequence << 13;
+    *sequence ^= *sequence >> 17;
+    *sequence ^= *sequence << 5;
+    return *sequence;
+}
+
 uint32_t drawn(void) {
-    static uint32_t state = 20250827;
-    state ^= state << 13;
-    state ^= state >> 17;
-    state ^= state << 5;
-    return state;
+    static uint32_t sequence = 20250827;
+    return draw(&sequence);
 }
 
 void ask_year(asker *ask, uint32_t market, uint32_t year) {

@@ -16,7 +16,16 @@ typedef struct {
 
 numbers of_date(tc_optional_date answer);
 numbers of_bool(tc_bool_result answer);
+numbers of_trading_day(tc_trading_day_result answer);
 numbers of_count(tc_count_result answer);
+numbers of_time(tc_time_result answer);
+numbers of_session(tc_session_result answer);
+numbers of_hours(tc_hours_result answer);
+
+/* The fields of a record after a first number, and the record of these fields. */
+enum { FIELDS = 13 };
+numbers of_record(uint32_t first, tc_hours hours);
+tc_hours record_of(const uint32_t *fields);
 
 /* A call, or a law of several calls, by its name, how many comparisons of it are meant, so that a loop cut short is seen, and how
  * many were made and differ. */
@@ -31,7 +40,8 @@ int compare(tally *call, numbers input, numbers answer, numbers expected);
 /* Prints a line for each call. 0 if no answer differs and all were compared that are meant, else 1. */
 int finish(const tally *calls, int count);
 
-/* The next number of a fixed sequence, the same in every run. */
+/* The next number of a sequence that is not at 0; and that of a fixed one, the same in every run. */
+uint32_t draw(uint32_t *sequence);
 uint32_t drawn(void);
 
 /* Compares what a call answers on a date. */

@@ -1,5 +1,6 @@
 /* The header as C and as C++: host/run builds this file in both. The sizes of the structs and the places of their fields, the named
- * numbers, and every call once, on examples of docs/SCOPE.md. Prints how many were compared; fails if any differs or not all were. */
+ * numbers, and every call once, on examples of docs/SCOPE.md. Prints how many were compared; fails if any differs or not all were
+ * compared. */
 #include "trading_calendar.h"
 
 #include <stdio.h>

@@ -33,26 +33,6 @@ static const uint32_t times[] = {0, 1, AROUND(14400), AROUND(28800), AROUND(3240
                                  AROUND(57600), AROUND(59400), 65535, 65536, AROUND(72000), 86398, AROUND(SECONDS),
                                  INT32_MAX, (uint32_t)INT32_MAX + 1, UINT32_MAX};
 
-static numbers of_session(tc_session_result a) {
-    numbers list = {3, {a.error, a.session.start, a.session.end}};
-    return list;
-}
-
-static numbers of_time(tc_time_result a) {
-    numbers list = {2, {a.error, a.seconds}};
-    return list;
-}
-
-/* The fields of a record after a first number. */
-static numbers of_record(uint32_t first, tc_hours h) {
-    numbers list = {14, {first, h.date.year, h.date.month, h.date.day, h.has_pre_market, h.pre_market.start, h.pre_market.end,
-                         h.regular.start, h.regular.end, h.has_after_hours, h.after_hours.start, h.after_hours.end,
-                         h.has_early_close, h.early_close}};
-    return list;
-}
-
-static numbers of_hours(tc_hours_result a) { return of_record(a.error, a.hours); }
-
 static void new_session(uint32_t start, uint32_t end) {
     numbers in = {2, {start, end}};
     compare(&calls[NEW_SESSION], in, of_session(tc_session_new(start, end)), of_session(plain_session_new(start, end)));
@@ -139,13 +119,7 @@ static void whole_sessions(void) {
 }
 
 /* What the fields of a record may be, in their order in tc_hours. */
-enum { FIELDS = 13 };
 typedef numbers choices[FIELDS];
-
-static tc_hours record_of(const uint32_t *f) {
-    tc_hours h = {{f[0], f[1], f[2]}, f[3], {f[4], f[5]}, {f[6], f[7]}, f[8], {f[9], f[10]}, f[11], f[12]};
-    return h;
-}
 
 /* One of the records with these fields: the digits of its number choose them. */
 static tc_hours chosen(const choices fields, unsigned long number) {

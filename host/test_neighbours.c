@@ -23,11 +23,6 @@ static tally calls[CALLS] = {
     [UP_TO_11] = {.name = "distances up to 11", .meant = 5ul * DAYS * 2},
 };
 
-static numbers of_trading_day(tc_trading_day_result a) {
-    numbers list = {6, {a.error, a.date.year, a.date.month, a.date.day, a.distance, a.outside}};
-    return list;
-}
-
 static void both(uint32_t market, uint32_t year, uint32_t month, uint32_t day) {
     numbers in = {4, {market, year, month, day}};
     compare(&calls[NEXT], in, of_trading_day(tc_next_trading_day(market, year, month, day)),

@@ -76,8 +76,8 @@ typedef struct {
     tc_date date;
 } tc_bool_result;
 
-/* date is the answer, and distance is how many days it is from the date given, 1 or more [distance]. outside is 1 if either
- * date is outside 2020 to 2030, else 0 [outside]: the rules are followed there too, but made for these years, and TSE for one has no
+/* date is the answer, and distance is how many days it is from the date given, 1 or more [distance]. outside is 1 if either date
+ * is outside 2020 to 2030, else 0 [outside]: the rules are followed there too, but made for these years, and TSE for one has no
  * equinox days in others. */
 typedef struct {
     uint32_t error;

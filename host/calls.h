@@ -1,0 +1,34 @@
+/* Every call of the library, and of the plain calendar, in one form, from numbers and lists to numbers; and numbers to call on. */
+#ifndef CALLS_H
+#define CALLS_H
+
+#include "compare.h"
+
+/* What a call is given: its numbers in order, and the lists that it takes. The numbers of a month sheet stand in its text. */
+typedef struct {
+    uint32_t values[14];
+    const uint8_t *text;
+    size_t text_length;
+    uint8_t *out;
+    size_t out_length;
+} input;
+
+/* A call by its name, and a letter for each of its numbers. The plain calendar answers faster if the first numbers, so
+ * many, stay the same from call to call. */
+typedef struct {
+    const char *name, *letters;
+    int same, takes_text, takes_out;
+    numbers (*library)(const input *in);
+    numbers (*plain)(const input *in);
+} call;
+
+enum { CALLS = 21 };
+extern const call calls[CALLS];
+
+/* Draws the numbers of a call from a place on: most of them valid, some at their limits, some at any limit, some any numbers. */
+void draw_values(input *in, const call *of, int place, uint32_t *sequence);
+
+/* Whether the answer of a call, with its own fields alone, is an error or no date. */
+int is_refused(numbers answer);
+
+#endif

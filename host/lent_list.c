@@ -1,0 +1,59 @@
+/* Lists that are lent to a call, between guard pages, between drawn bytes, and on the heap. */
+#define _DEFAULT_SOURCE
+#include "lent_list.h"
+
+#include "compare.h"
+
+#include <stdio.h>
+#include <stdlib.h>
+#include <string.h>
+#include <sys/mman.h>
+#include <unistd.h>
+
+enum placement { AT_START, AT_END, BETWEEN, ON_HEAP, PLACEMENTS };
+
+static void stop(const char *what) {
+    perror(what);
+    exit(1);
+}
+
+void open_lent(lent *l, uint32_t *sequence) {
+    uint8_t *pages;
+    memset(l, 0, sizeof *l);
+    l->page_size = (size_t)sysconf(_SC_PAGESIZE);
+    pages = mmap(NULL, 3 * l->page_size, PROT_NONE, MAP_PRIVATE | MAP_ANONYMOUS, -1, 0);
+    if (pages == MAP_FAILED) stop("mmap");
+    l->page = pages + l->page_size;
+    if (mprotect(l->page, l->page_size, PROT_READ | PROT_WRITE) != 0) stop("mprotect");
+    for (size_t i = 0; i < sizeof l->noise; i++) l->noise[i] = (uint8_t)(draw(sequence) >> 8);
+}
+
+void close_lent(lent *l) { munmap(l->page - l->page_size, 3 * l->page_size); }
+
+/* On just the length, but for a length of 0, as a block of that may be null. */
+static uint8_t *heap_block(size_t length) {
+    uint8_t *block = malloc(length == 0 ? 1 : length);
+    if (block == NULL) stop("malloc");
+    return block;
+}
+
+void lend(lent *l, const uint8_t *content, size_t length, uint32_t *sequence) {
+    enum placement where = draw(sequence) % PLACEMENTS;
+    uint32_t place = draw(sequence);
+
+    l->heap = where == ON_HEAP ? heap_block(length) : NULL;
+    l->size = where == ON_HEAP ? length : WINDOW;
+    l->bytes = where == ON_HEAP ? l->heap : where == AT_END ? l->page + l->page_size - WINDOW : l->page;
+    l->list = l->bytes + (where == AT_END ? WINDOW - length : where == BETWEEN ? place % (WINDOW - length + 1) : 0);
+    l->length = length;
+    memcpy(l->bytes, l->noise + place % WINDOW, l->size);
+    if (content != NULL) memcpy(l->list, content, length);
+    memcpy(l->before, l->bytes, l->size);
+}
+
+int is_kept(const lent *l, size_t written) {
+    size_t start = (size_t)(l->list - l->bytes), rest = start + written;
+    return memcmp(l->bytes, l->before, start) == 0 && memcmp(l->bytes + rest, l->before + rest, l->size - rest) == 0;
+}
+
+void take_back(lent *l) { free(l->heap); }
