@@ -1,7 +1,7 @@
 /* Makes many calls of every function with drawn numbers, texts and lists. Each answer is compared with the plain calendar's; a list
  * is written to for the answer alone, and no byte beside a list is read or written. Then threads make the same calls at the same
- * time, each in an order of its own, and have to get the same answers. Prints a line for each function; fails if an answer differs,
- * if not all calls were made, or if none of them had an answer, or all. */
+ * time, each in an order of its own and interrupted by other calls, and have to get the same answers. Prints a line for each
+ * function; fails if an answer differs, if not all calls were made, or if none of them had an answer, or all. */
 #define _POSIX_C_SOURCE 200809L
 #include "calls.h"
 #include "lent_list.h"
@@ -18,7 +18,6 @@
 static const char how[] = "one after the other, as there are no threads here";
 #else
 #include <pthread.h>
-#include <sched.h>
 #include <time.h>
 static const char how[] = "in threads at the same time";
 #endif
@@ -39,10 +38,12 @@ typedef struct {
     unsigned long made[CALLS], refused[CALLS], differ[CALLS];
 } worker;
 
-/* Worker 0 is compared with the plain calendar, and the others by digests with it. */
+/* Worker 0 is compared with the plain calendar, and the others by digests with it. It leaves for each function what this was given
+ * when it last had an answer. */
 static worker workers[1 + WORKERS];
 static tally tallies[CALLS];
 static uint64_t digests[BLOCKS][CALLS];
+static input answered[CALLS];
 
 /* The call that worker 0 makes, or one of those that the others make, for a message if it does not come back. */
 static const char *volatile current = "";
@@ -65,7 +66,7 @@ static void handle(int number, void (*handler)(int)) {
 }
 
 static void stop_at_faults(void) {
-    static const int faults[] = {SIGSEGV, SIGBUS, SIGILL, SIGFPE};
+    static const int faults[] = {SIGSEGV, SIGBUS, SIGILL, SIGFPE, SIGABRT};
     for (size_t i = 0; i < LENGTH(faults); i++) handle(faults[i], stop_at_fault);
 }
 
@@ -110,11 +111,13 @@ static numbers ask(worker *w, int c) {
     const call *of = &calls[c];
     numbers answer;
     size_t written = 0;
+    int refused;
 
     if (w->number == 0) current = of->name;
     answer = of->library(&w->in);
+    refused = is_refused(answer);
     w->made[c]++;
-    w->refused[c] += (unsigned long)is_refused(answer);
+    w->refused[c] += (unsigned long)refused;
     if (of->takes_out) {
         written = written_bytes(&w->in, answer);
         digest(&w->digests[c], w->out.list, written);
@@ -122,6 +125,7 @@ static numbers ask(worker *w, int c) {
     }
     digest(&w->digests[c], answer.values, (size_t)answer.count * sizeof answer.values[0]);
     if (w->number == 0) compare_with_plain(w, c, answer, written);
+    if (w->number == 0 && !refused) answered[c] = w->in;
     return answer;
 }
 
@@ -242,9 +246,18 @@ static void stop_if(int error) {
     exit(1);
 }
 
-static void let_others_run(int number) {
+/* Makes every call, on the last numbers that had an answer, while a call of the thread is under way. */
+static void call_within_call(int number) {
+    uint8_t out[TC_SHEET_BUFFER_LENGTH];
     (void)number;
-    sched_yield();
+    for (int c = 0; c < CALLS; c++) {
+        input in = answered[c];
+        in.text = (const uint8_t *)example_text;
+        in.text_length = strlen(example_text);
+        in.out = out;
+        in.out_length = sizeof out;
+        calls[c].library(&in);
+    }
 }
 
 static int are_done(void) {
@@ -253,7 +266,7 @@ static int are_done(void) {
     return done == WORKERS;
 }
 
-/* Again and again, so that others go on while a worker is within a call, also on one processor. */
+/* Again and again, at any place in a call. So calls overlap also where the threads share one processor. */
 static void interrupt_workers(const pthread_t *threads) {
     const struct timespec pause = {0, 20000};
     for (int i = 0; !are_done(); i++) {
@@ -268,7 +281,7 @@ static void start_workers(pthread_t *threads) {
 
 static void run_workers(void) {
     pthread_t threads[1 + WORKERS];
-    handle(SIGUSR1, let_others_run);
+    handle(SIGUSR1, call_within_call);
     start_workers(threads);
     interrupt_workers(threads);
     for (int i = 1; i <= WORKERS; i++) stop_if(pthread_join(threads[i], NULL));
