@@ -7,7 +7,7 @@
 #include <string.h>
 
 /* How many comparisons are meant. */
-enum { MEANT = 92 };
+enum { MEANT = 94 };
 static int compared, differ;
 
 static void is(const char *expression, unsigned long value, unsigned long expected) {
@@ -43,7 +43,7 @@ static void structs(void) {
     IS(offsetof(tc_trading_day_result, outside), 4 * 5);
 }
 
-/* [markets], [weekday-numbers] */
+/* [markets], [weekday-numbers], and lengths that test_ranges.c and test_sheet.c show to be enough. */
 static void codes(void) {
     IS(TC_NYSE, 0);
     IS(TC_NASDAQ, 1);
@@ -57,6 +57,8 @@ static void codes(void) {
     IS(TC_FRIDAY, 4);
     IS(TC_SATURDAY, 5);
     IS(TC_SUNDAY, 6);
+    IS(TC_MONTH_BUFFER_LENGTH, 23);
+    IS(TC_SHEET_BUFFER_LENGTH, 104);
 }
 
 static void moving_days(void) {

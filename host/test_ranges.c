@@ -81,11 +81,11 @@ static void all_months(void) {
     long_lists();
 }
 
-/* The header says that 23 bytes are enough. */
+/* The header says that these bytes are enough. */
 static void up_to_23(void) {
     for (uint32_t i = 0; i < 5 * 11 * 12; i++) {
         uint32_t market = i % 5, year = 2020 + i / 5 % 11, month = 1 + i / 55;
-        uint8_t bytes[23];
+        uint8_t bytes[TC_MONTH_BUFFER_LENGTH];
         numbers in = {3, {market, year, month}}, none = {1, {0}};
         numbers error = {1, {tc_trading_days_in_month(market, year, month, bytes, sizeof bytes).error}};
         compare(&calls[UP_TO_23], in, error, none);

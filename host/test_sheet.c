@@ -177,8 +177,8 @@ static tc_count_result string_of(char *sheet, uint32_t market, uint32_t year, ui
     char text[64];
     tc_count_result answer;
     text_of(text, 1, market, year, month);
-    answer = ask(text, (uint8_t *)sheet, 104);
-    sheet[answer.error == 0 && answer.count <= 104 ? answer.count : 0] = '\0';
+    answer = ask(text, (uint8_t *)sheet, TC_SHEET_BUFFER_LENGTH);
+    sheet[answer.error == 0 && answer.count <= TC_SHEET_BUFFER_LENGTH ? answer.count : 0] = '\0';
     return answer;
 }
 
@@ -232,7 +232,7 @@ static void no_zeros(numbers in, const char *sheet) {
 }
 
 static void laws_of_month(uint32_t market, uint32_t year, uint32_t month) {
-    char sheet[105];
+    char sheet[TC_SHEET_BUFFER_LENGTH + 1];
     numbers in = {3, {market, year, month}}, none = {1, {0}};
     numbers error = {1, {string_of(sheet, market, year, month).error}};
     compare(&calls[UP_TO_104], in, error, none);
