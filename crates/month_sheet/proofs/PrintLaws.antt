@@ -20,7 +20,7 @@ use Rattle.request.specs.declared.Request.{Request}
 use Rattle.request.specs.Request.{readRequest}
 use Rattle.sheet.specs.Call.{SheetResult, sheetOfRequest, sheetOf, sheetWritten, sheetBuffer, monthSheetResult, monthSheetBuffer}
 use Rattle.sheet.proofs.CallLaws.{sheet-asked}
-use Rattle.sheet.proofs.SheetLength.{sheet-length}
+use Rattle.sheet_lines.proofs.SheetLength.{sheet-length}
 use Rattle.month_sheet.specs.Printed.{refusedLine, printedResult, printed}
 
 -- ---- how long it is

@@ -7,7 +7,7 @@ ghost use Rattle.io.specs.Counts.{Counts};
 ghost use Rattle.buffers.specs.Buffers.{overwrite};
 ghost use Rattle.month_sheet.specs.Printed.{printed, ReadOf};
 use crate::input::INPUT_LENGTH;
-use sheet::write_line;
+use sheet_lines::write_line;
 use trading_calendar::sheets::tc_month_sheet;
 
 // So many bytes are proved to be enough for every sheet; the longest has 104.

@@ -13,7 +13,7 @@ use Rattle.error.specs.declared.CalendarError.{CalendarError}
 use Rattle.error.specs.declared.CalendarError.the-variants.{BufferTooSmall}
 use Rattle.range_calls.specs.RangeCalls.{writtenResult, finalBuffer, MonthCheck, checkedMonth, tryMonth, tradingDaysInMonthResult, tradingDaysInMonthBuffer}
 use Rattle.range_calls.proofs.MonthLaws.{written-ok, written-error, month-result, NoMonthError, month-checked}
-use Rattle.sheet.specs.Sheet.{sheetText, monthSheet}
+use Rattle.sheet_lines.specs.Sheet.{sheetText, monthSheet}
 use Rattle.sheet.specs.Call.{SheetResult, sheetOfMonth, sheetWritten, sheetBuffer}
 
 -- ---- n bytes and a buffer

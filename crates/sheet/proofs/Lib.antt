@@ -1,3 +1,1 @@
-pub mod LineLaws
-pub mod SheetLength
 pub mod CallLaws

@@ -7,7 +7,7 @@ use Rattle.error.specs.declared.CalendarError.the-variants.{MalformedText}
 use Rattle.range_calls.specs.RangeCalls.{checkedMonth, tryMonth, writtenResult, finalBuffer}
 use Rattle.request.specs.declared.Request.{Request}
 use Rattle.request.specs.Request.{readRequest}
-use Rattle.sheet.specs.Sheet.{monthSheet}
+use Rattle.sheet_lines.specs.Sheet.{monthSheet}
 
 -- a sheet's bytes, or an error
 pub data SheetResult : Type 0 where

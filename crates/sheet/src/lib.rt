@@ -1,19 +1,17 @@
-// The month sheet: a text that names a month of a market, and the sheet of its trading days. Labels in brackets are those of
-// docs/SCOPE.md.
-mod length;
-mod lines;
-
-pub use lines::write_line;
+// The call for a month sheet: a text that names a month of a market, and the sheet of its trading days. Labels in brackets are
+// those of docs/SCOPE.md.
 ghost use mathlib.Core.Path.{_≡_};
 ghost use Prim.Native.Nat.{_≤_};
 ghost use lib.ListN.{length};
 ghost use Rattle.range_calls.specs.RangeCalls.{writtenResult, finalBuffer};
-ghost use Rattle.sheet.specs.Sheet.{sheetText};
+ghost use Rattle.sheet_lines.specs.Sheet.{sheetText};
 ghost use Rattle.sheet.specs.Call.{sheetOfMonth, sheetWritten, sheetBuffer, monthSheetResult, monthSheetBuffer};
 use error::CalendarError;
 use error::CountResult;
 use request::Request;
 use request::read_request;
+use sheet_lines::sheet_length;
+use sheet_lines::write_lines;
 use trading_days::LONGEST_MONTH;
 
 // How many bytes were written; error 9 where the sheet does not fit.
@@ -22,11 +20,11 @@ fn write_fitting(market: u32, year: u32, month: u32, days: &[u8], out: &mut [u8]
     ensures { λ r. ⌜ (r ≡ writtenResult (sheetText market year month (now (days .entry))) (now (out .entry)))
         × (now (out .exit) ≡ finalBuffer r (sheetText market year month (now (days .entry))) (now (out .entry))) ⌝ }
 {
-    let needed = length::sheet_length(market, year, month, days);
+    let needed = sheet_length(market, year, month, days);
     if out.len() < needed {
         return CountResult::Err(CalendarError::BufferTooSmall(needed as u32));
     }
-    CountResult::Ok(lines::write_lines(0, market, year, month, days, out) as u32)
+    CountResult::Ok(write_lines(0, market, year, month, days, out) as u32)
 }
 
 // The first of errors 8, 1, 2 and 9 that applies, or the sheet with the days of the month list.

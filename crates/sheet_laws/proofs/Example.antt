@@ -4,7 +4,7 @@ use mathlib.Core.Path.{_≡_, refl}
 use mathlib.Core.List.{[], _∷_}
 use Rattle.decimal.specs.Decimal.{decimalIn, decimal}
 use Rattle.request.specs.Text.{ascii, textOf}
-use Rattle.sheet.specs.Sheet.{commaSeparated, sheetLines, sheetText}
+use Rattle.sheet_lines.specs.Sheet.{commaSeparated, sheetLines, sheetText}
 
 pub example : sheetText 4 2022 12 (1 ∷ 2 ∷ 5 ∷ 6 ∷ 7 ∷ 8 ∷ 9 ∷ 12 ∷ 13 ∷ 14 ∷ 15 ∷ 16 ∷ 19 ∷ 20 ∷ 21 ∷ 22 ∷ 23 ∷ 27 ∷ 28 ∷ 29 ∷ 30 ∷ [])
     ≡ ascii "market=4\nyear=2022\nmonth=12\ncount=21\ndays=1,2,5,6,7,8,9,12,13,14,15,16,19,20,21,22,23,27,28,29,30\n"

@@ -14,7 +14,7 @@ use Rattle.decimal.specs.Decimal.{decimal, leadingDigits}
 use Rattle.decimal.proofs.DigitLaws.{by-digits}
 use Rattle.decimal.proofs.DecimalLaws.{length-positive, decimal-digits}
 use Rattle.request.specs.Text.{ascii, textOf}
-use Rattle.sheet.specs.Sheet.{commaSeparated}
+use Rattle.sheet_lines.specs.Sheet.{commaSeparated}
 use Rattle.sheet_laws.specs.SheetLaws.{splitFrom, split, splitLines, firstLines, splitList}
 
 -- ---- parts

@@ -27,11 +27,11 @@ use Rattle.decimal.proofs.DecimalLaws.{length-positive, length-at-most, decimal
 use Rattle.request.specs.declared.Request.{Request}
 use Rattle.request.specs.Text.{ascii}
 use Rattle.request.specs.Request.{requestText, readRequest}
-use Rattle.sheet.specs.Sheet.{commaSeparated, sheetLines, monthSheet}
+use Rattle.sheet_lines.specs.Sheet.{commaSeparated, sheetLines, monthSheet}
 use Rattle.sheet.specs.Call.{SheetResult, sheetOfMonth, sheetOfRequest, sheetWritten, sheetBuffer, monthSheetResult}
 use Rattle.request.proofs.Form.{reads-the-form}
 use Rattle.sheet.proofs.CallLaws.{sheet-by-check, sheet-asked}
-use Rattle.sheet.proofs.SheetLength.{sheet-length}
+use Rattle.sheet_lines.proofs.SheetLength.{sheet-length}
 use Rattle.sheet_laws.specs.SheetLaws.{splitLines, firstLines, splitList, IsNumber, SheetLaws, AllSheetLaws}
 use Rattle.sheet_laws.proofs.Splitting.{Above, decimal-above, split-text, first-lines, numbers-above, split-list}
 

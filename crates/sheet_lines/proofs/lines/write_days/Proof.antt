@@ -1,4 +1,4 @@
--- `sheet::lines::write_days` meets its contract: the name, and the numbers in what is left of the buffer.
+-- `sheet_lines::lines::write_days` meets its contract: the name, and the numbers in what is left of the buffer.
 use Prim.Native.Nat.{ℕ}
 use mathlib.Core.Path.{refl}
 use mathlib.Core.List.{List}
@@ -7,9 +7,9 @@ use borrow.Author.Needs.{needs}
 use denote.Ref.{now}
 use Rattle.buffers.proofs.BufferLaws.{bytes-fit, rest-starts, more-fits, all-written}
 use Rattle.request.specs.Text.{ascii}
-use Rattle.sheet.proofs.LineLaws.{numbersLine}
-use Rattle.sheet.proofs.lines.write_days.Statement.{statement}
-use Rattle.sheet.proofs.lines.write_days.Tie as tie
+use Rattle.sheet_lines.proofs.LineLaws.{numbersLine}
+use Rattle.sheet_lines.proofs.lines.write_days.Statement.{statement}
+use Rattle.sheet_lines.proofs.lines.write_days.Tie as tie
 
 -- the bytes after the name
 abbrev more : tie.Start → List ℕ

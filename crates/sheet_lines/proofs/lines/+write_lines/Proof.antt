@@ -1,4 +1,4 @@
--- `sheet::lines::write_lines` meets its contract: a line, and the lines after it in what is left of the buffer. The lines left get fewer.
+-- `sheet_lines::lines::write_lines` meets its contract: a line, and the lines after it in what is left of the buffer. The lines left get fewer.
 use Prim.Native.Nat.{ℕ, _+_, _-_, _≤_, _<_}
 use mathlib.Core.Path.{_≡_}
 use mathlib.Core.List.{List, _++_}
@@ -9,15 +9,15 @@ use borrow.Fn.PlainCycle.{Measures, is, falls, and}
 use borrow.Author.Needs.{needs}
 use denote.Ref.{now}
 use Rattle.buffers.proofs.BufferLaws.{bytes-fit, rest-starts, more-fits, all-written}
-use Rattle.sheet.specs.Sheet.{sheetLine, sheetFrom}
-use Rattle.sheet.proofs.LineLaws.{sheet-from, sheet-last}
-use Rattle.sheet.proofs.lines.write_days.Reads as write-days
-use Rattle.sheet.proofs.lines.write_field.Reads as write-field
-use Rattle.sheet.proofs.lines.write_lines.Reads as write-lines
-use Rattle.sheet.proofs.lines.write_lines.Kinds as kinds
-use Rattle.sheet.proofs.lines.+write_lines.Lts-write_lines as lts
-use Rattle.sheet.proofs.lines.+write_lines.{statement}
-use Rattle.sheet.proofs.lines.+write_lines.Tie.{close}
+use Rattle.sheet_lines.specs.Sheet.{sheetLine, sheetFrom}
+use Rattle.sheet_lines.proofs.LineLaws.{sheet-from, sheet-last}
+use Rattle.sheet_lines.proofs.lines.write_days.Reads as write-days
+use Rattle.sheet_lines.proofs.lines.write_field.Reads as write-field
+use Rattle.sheet_lines.proofs.lines.write_lines.Reads as write-lines
+use Rattle.sheet_lines.proofs.lines.write_lines.Kinds as kinds
+use Rattle.sheet_lines.proofs.lines.+write_lines.Lts-write_lines as lts
+use Rattle.sheet_lines.proofs.lines.+write_lines.{statement}
+use Rattle.sheet_lines.proofs.lines.+write_lines.Tie.{close}
 
 -- how many lines are left
 abbrev μ : Measures 2 kinds.ps ℕ

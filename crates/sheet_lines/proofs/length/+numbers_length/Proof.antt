@@ -1,4 +1,4 @@
--- `sheet::length::numbers_length` meets its contract: the digits of the first number with its comma, and the rest. The list gets shorter.
+-- `sheet_lines::length::numbers_length` meets its contract: the digits of the first number with its comma, and the rest. The list gets shorter.
 use Prim.Native.Nat.{ℕ, _+_, _≤_, _<_}
 use mathlib.Core.Path.{_≡_, sym, ap}
 use mathlib.Core.List.{List, _++_}
@@ -12,13 +12,13 @@ use Rattle.buffers.proofs.BufferLaws.{rest-length}
 use Rattle.decimal.specs.Decimal.{decimal}
 use Rattle.decimal.proofs.digits.Reads as digits
 use Rattle.request.specs.Text.{ascii}
-use Rattle.sheet.proofs.LineLaws.{numbersLine, others, numbers-none, numbers-one, numbers-more}
-use Rattle.sheet.proofs.length.wide.Reads as wide
-use Rattle.sheet.proofs.length.numbers_length.Reads as numbers-length
-use Rattle.sheet.proofs.length.numbers_length.Kinds as kinds
-use Rattle.sheet.proofs.length.+numbers_length.Lts-numbers_length as lts
-use Rattle.sheet.proofs.length.+numbers_length.{statement}
-use Rattle.sheet.proofs.length.+numbers_length.Tie.{close}
+use Rattle.sheet_lines.proofs.LineLaws.{numbersLine, others, numbers-none, numbers-one, numbers-more}
+use Rattle.sheet_lines.proofs.length.wide.Reads as wide
+use Rattle.sheet_lines.proofs.length.numbers_length.Reads as numbers-length
+use Rattle.sheet_lines.proofs.length.numbers_length.Kinds as kinds
+use Rattle.sheet_lines.proofs.length.+numbers_length.Lts-numbers_length as lts
+use Rattle.sheet_lines.proofs.length.+numbers_length.{statement}
+use Rattle.sheet_lines.proofs.length.+numbers_length.Tie.{close}
 
 -- the length by how many numbers there are
 module _ (numbers : List ℕ) (n d : ℕ) (e : n ≡ getD numbers 0 0) (w : d ≡ length (decimal n)) where

@@ -1,4 +1,4 @@
--- `sheet::lines::write_numbers` meets its contract: the first number, and the others in what is left of the buffer. The list gets shorter.
+-- `sheet_lines::lines::write_numbers` meets its contract: the first number, and the others in what is left of the buffer. The list gets shorter.
 use Prim.Native.Nat.{ℕ, _<_}
 use mathlib.Core.Path.{ap}
 use mathlib.Core.List.{_++_}
@@ -12,14 +12,14 @@ use Rattle.buffers.proofs.BufferLaws.{rest-length, bytes-fit, rest-starts, more
 use Rattle.buffers.proofs.write.Reads as write
 use Rattle.decimal.specs.Decimal.{decimal}
 use Rattle.request.specs.Text.{ascii}
-use Rattle.sheet.proofs.LineLaws.{numbersLine, others, numbers-none, numbers-one, numbers-more}
-use Rattle.sheet.proofs.length.wide.Reads as wide
-use Rattle.sheet.proofs.lines.write_number.Reads as write-number
-use Rattle.sheet.proofs.lines.write_numbers.Reads as write-numbers
-use Rattle.sheet.proofs.lines.write_numbers.Kinds as kinds
-use Rattle.sheet.proofs.lines.+write_numbers.Lts-write_numbers as lts
-use Rattle.sheet.proofs.lines.+write_numbers.{statement}
-use Rattle.sheet.proofs.lines.+write_numbers.Tie.{close}
+use Rattle.sheet_lines.proofs.LineLaws.{numbersLine, others, numbers-none, numbers-one, numbers-more}
+use Rattle.sheet_lines.proofs.length.wide.Reads as wide
+use Rattle.sheet_lines.proofs.lines.write_number.Reads as write-number
+use Rattle.sheet_lines.proofs.lines.write_numbers.Reads as write-numbers
+use Rattle.sheet_lines.proofs.lines.write_numbers.Kinds as kinds
+use Rattle.sheet_lines.proofs.lines.+write_numbers.Lts-write_numbers as lts
+use Rattle.sheet_lines.proofs.lines.+write_numbers.{statement}
+use Rattle.sheet_lines.proofs.lines.+write_numbers.Tie.{close}
 
 -- how many numbers there are
 abbrev μ : Measures 2 kinds.ps ℕ

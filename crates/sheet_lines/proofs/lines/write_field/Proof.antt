@@ -1,4 +1,4 @@
--- `sheet::lines::write_field` meets its contract: each arm writes its line.
+-- `sheet_lines::lines::write_field` meets its contract: each arm writes its line.
 use Prim.Native.Nat.{ℕ, _≤_}
 use mathlib.Core.Path.{_≡_}
 use mathlib.Core.List.{List}
@@ -7,9 +7,9 @@ use native.Mathlib.Omega.{arith}
 use borrow.Author.Needs.{needs}
 use denote.Ref.{now}
 use Rattle.buffers.specs.Buffers.{overwrite}
-use Rattle.sheet.specs.Sheet.{sheetLines, sheetLine}
-use Rattle.sheet.proofs.lines.write_field.Statement.{statement}
-use Rattle.sheet.proofs.lines.write_field.Tie as tie
+use Rattle.sheet_lines.specs.Sheet.{sheetLines, sheetLine}
+use Rattle.sheet_lines.proofs.lines.write_field.Statement.{statement}
+use Rattle.sheet_lines.proofs.lines.write_field.Tie as tie
 
 -- line j, where the number is known to be j
 module _ (s : tie.Start) (j : ℕ) (e : s .args .line ≡ j) where

@@ -1,4 +1,4 @@
--- `sheet::lines::write_number` meets its contract: the digits, and a byte after them.
+-- `sheet_lines::lines::write_number` meets its contract: the digits, and a byte after them.
 use Prim.Native.Nat.{ℕ, _+_, _≤_, _<_}
 use mathlib.Core.Path.{_≡_, ap, sym, _∙_}
 use mathlib.Core.List.{List, [], _∷_, _++_}
@@ -9,8 +9,8 @@ use denote.Ref.{now}
 use Rattle.buffers.specs.Buffers.{overwrite}
 use Rattle.buffers.proofs.BufferLaws.{overwrite-length, overwrite-byte}
 use Rattle.decimal.specs.Decimal.{decimal}
-use Rattle.sheet.proofs.lines.write_number.Statement.{statement}
-use Rattle.sheet.proofs.lines.write_number.Tie as tie
+use Rattle.sheet_lines.proofs.lines.write_number.Statement.{statement}
+use Rattle.sheet_lines.proofs.lines.write_number.Tie as tie
 
 -- n digits were written to the buffer: there is room for the byte, and with it all is written
 module _ (number end : ℕ) (buffer : List ℕ) (fits : length (decimal number ++ (end ∷ [])) ≤ length buffer) where

@@ -1,10 +1,10 @@
--- `sheet::length::sheet_length` meets its contract: the sum over the five lines.
+-- `sheet_lines::length::sheet_length` meets its contract: the sum over the five lines.
 use native.Mathlib.Omega.{arith}
 use borrow.Author.Needs.{needs}
 use denote.Ref.{now}
-use Rattle.sheet.proofs.LineLaws.{sheet-lengths}
-use Rattle.sheet.proofs.length.sheet_length.Statement.{statement}
-use Rattle.sheet.proofs.length.sheet_length.Tie as tie
+use Rattle.sheet_lines.proofs.LineLaws.{sheet-lengths}
+use Rattle.sheet_lines.proofs.length.sheet_length.Statement.{statement}
+use Rattle.sheet_lines.proofs.length.sheet_length.Tie as tie
 
 returns : tie.Need-returns
 returns c =

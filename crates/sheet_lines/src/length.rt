@@ -4,7 +4,7 @@ ghost use mathlib.Core.List.{_++_};
 ghost use Prim.Native.Nat.{_+_, _*_, _≤_};
 ghost use lib.ListN.{length};
 ghost use Rattle.request.specs.Text.{ascii};
-ghost use Rattle.sheet.specs.Sheet.{commaSeparated, sheetText};
+ghost use Rattle.sheet_lines.specs.Sheet.{commaSeparated, sheetText};
 
 // The names of the five lines, and the line feeds of the first four.
 const NAMES_AND_LINE_FEEDS: usize = 33;

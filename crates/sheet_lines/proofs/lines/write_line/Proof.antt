@@ -1,4 +1,4 @@
--- `sheet::lines::write_line` meets its contract: the name, and the number in what is left of the buffer.
+-- `sheet_lines::lines::write_line` meets its contract: the name, and the number in what is left of the buffer.
 use Prim.Native.Nat.{ℕ}
 use mathlib.Core.Path.{refl}
 use mathlib.Core.List.{List, _++_}
@@ -8,8 +8,8 @@ use denote.Ref.{now}
 use Rattle.buffers.proofs.BufferLaws.{bytes-fit, rest-starts, more-fits, all-written}
 use Rattle.decimal.specs.Decimal.{decimal}
 use Rattle.request.specs.Text.{ascii}
-use Rattle.sheet.proofs.lines.write_line.Statement.{statement}
-use Rattle.sheet.proofs.lines.write_line.Tie as tie
+use Rattle.sheet_lines.proofs.lines.write_line.Statement.{statement}
+use Rattle.sheet_lines.proofs.lines.write_line.Tie as tie
 
 -- the name, and the bytes after it
 module _ (s : tie.Start) where

@@ -7,7 +7,7 @@ ghost use lib.ListN.{length};
 ghost use Rattle.buffers.specs.Buffers.{overwrite};
 ghost use Rattle.decimal.specs.Decimal.{decimal};
 ghost use Rattle.request.specs.Text.{ascii};
-ghost use Rattle.sheet.specs.Sheet.{commaSeparated, sheetLine, sheetFrom};
+ghost use Rattle.sheet_lines.specs.Sheet.{commaSeparated, sheetLine, sheetFrom};
 use crate::length::wide;
 
 // A number, and the byte that ends it.

@@ -20,7 +20,7 @@ use Rattle.decimal.proofs.DecimalLaws.{length-at-most}
 use Rattle.calendar.specs.Calls.{isSupported}
 use Rattle.calendar.proofs.CallLaws.{supported-years}
 use Rattle.request.specs.Text.{textOf}
-use Rattle.sheet.specs.Sheet.{commaSeparated, sheetLines, monthSheet}
+use Rattle.sheet_lines.specs.Sheet.{commaSeparated, sheetLines, monthSheet}
 
 two-digits : (n : ℕ) → n ≤ 31 → length (decimal n) ≤ 2
 two-digits n h = length-at-most 1 n (omega arith)
