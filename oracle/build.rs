@@ -1,4 +1,4 @@
-//! Links the static libraries of the calendar, and QuantLib if the bench is to have it.
+//! Links all_years beside the library, which host/rust links, and QuantLib if the bench is to have it.
 
 use std::path::Path;
 use std::process::Command;
@@ -6,10 +6,8 @@ use std::process::Command;
 fn main() {
     let folder = Path::new(env!("CARGO_MANIFEST_DIR")).join("../target/staticlib");
     println!("cargo:rustc-link-search=native={}", folder.display());
-    for name in ["trading_calendar", "all_years"] {
-        println!("cargo:rustc-link-lib=static={name}");
-    }
-    // oracle/run sets it to the sum of both, so that they are linked anew when they change, whatever their times are.
+    println!("cargo:rustc-link-lib=static=all_years");
+    // oracle/run sets it to the sum of both archives, so that they are linked anew when they change, whatever their times are.
     println!("cargo:rerun-if-env-changed=ORACLE_ARCHIVES");
     // oracle/run sets it to the version of QuantLib, or to nothing.
     println!("cargo:rerun-if-env-changed=ORACLE_QUANTLIB");

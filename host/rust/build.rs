@@ -9,6 +9,8 @@ const ARCHIVE: &str = "libtrading_calendar.a";
 fn main() {
     println!("cargo:rerun-if-env-changed=TRADING_CALENDAR_LIB_DIR");
     println!("cargo:rerun-if-env-changed=PKG_CONFIG_PATH");
+    // oracle/run sets it to a sum of the archive, so that a changed one is linked anew, whatever its time is.
+    println!("cargo:rerun-if-env-changed=ORACLE_ARCHIVES");
     let folder = folder().unwrap_or_else(|message| {
         eprintln!("trading-calendar: {message}");
         exit(1)
