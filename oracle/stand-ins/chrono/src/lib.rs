@@ -8,6 +8,7 @@ mod duration;
 mod naive_date;
 mod naive_time;
 mod weekday;
+mod year_day;
 mod zone;
 
 pub use duration::Duration;

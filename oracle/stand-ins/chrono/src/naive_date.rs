@@ -1,17 +1,19 @@
 //! Dates as one integer, from which year, month, day and weekday are read by a shift, so that they cost little to ask.
 
-use crate::{day_number, Duration, NaiveDateTime, NaiveTime, Weekday};
+use crate::{day_number, year_day, Duration, NaiveDateTime, NaiveTime, Weekday};
 use std::fmt;
 use std::ops::{Add, AddAssign, Sub, SubAssign};
 
 /// More than the comparison asks for.
 const YEARS: std::ops::RangeInclusive<i32> = -262143..=262142;
 
-const YEAR_SHIFT: u32 = 12;
-const MONTH_SHIFT: u32 = 8;
-const DAY_SHIFT: u32 = 3;
+const YEAR_SHIFT: u32 = 13;
+const MONTH_SHIFT: u32 = 9;
+const DAY_SHIFT: u32 = 4;
+const LEAP_SHIFT: u32 = 3;
 
-/// From the high bits down: year, month (4 bits), day (5 bits), weekday (3 bits). So integers are ordered as dates are.
+/// From the high bits down: year, month (4 bits), day (5 bits), whether the year is a leap year (1 bit), weekday (3 bits). So
+/// integers are ordered as dates are.
 #[derive(Clone, Copy, PartialEq, Eq, PartialOrd, Ord, Hash)]
 pub struct NaiveDate(i32);
 
@@ -25,23 +27,80 @@ pub trait Datelike {
 impl NaiveDate {
     /// None if there is no such date.
     pub fn from_ymd_opt(year: i32, month: u32, day: u32) -> Option<NaiveDate> {
+        let leap = year_day::is_leap(year);
         let exists = YEARS.contains(&year)
             && (1..=12).contains(&month)
-            && (1..=day_number::month_length(year, month)).contains(&day);
-        exists.then(|| pack(year, month, day, day_number::of_date(year, month, day)))
+            && (1..=year_day::month_length(leap, month)).contains(&day);
+        exists.then(|| {
+            let number = day_number::of_date(year, month, day);
+            pack(year, month, day, leap, number.rem_euclid(7))
+        })
+    }
+
+    #[inline]
+    fn is_leap(self) -> bool {
+        self.0 >> LEAP_SHIFT & 1 == 1
     }
 
     fn day_number(self) -> i32 {
         day_number::of_date(self.year(), self.month(), self.day())
     }
 
-    /// Panics, as chrono does, if the date is past the years that there are.
+    /// As far as known, chrono has a quick way inside a year. Here are two, for a month and for a year.
+    #[inline]
     fn moved(self, days: i64) -> NaiveDate {
+        self.moved_in_month(days)
+            .unwrap_or_else(|| self.moved_far(days))
+    }
+
+    #[inline(never)]
+    fn moved_far(self, days: i64) -> NaiveDate {
+        self.moved_in_year(days)
+            .unwrap_or_else(|| self.moved_by_number(days))
+    }
+
+    /// None if that leaves the month.
+    #[inline]
+    fn moved_in_month(self, days: i64) -> Option<NaiveDate> {
+        let (month, leap) = (self.month(), self.is_leap());
+        let day = i64::from(self.day()).wrapping_add(days);
+        let exists = (1..=i64::from(year_day::month_length(leap, month))).contains(&day);
+        exists.then(|| {
+            let weekday = self.weekday_after(days);
+            pack(self.year(), month, day as u32, leap, weekday)
+        })
+    }
+
+    /// None if that leaves the year.
+    fn moved_in_year(self, days: i64) -> Option<NaiveDate> {
+        let leap = self.is_leap();
+        let today = year_day::of_date(leap, self.month(), self.day());
+        let moved = i64::from(today).wrapping_add(days);
+        let exists = (1..=i64::from(year_day::length(leap))).contains(&moved);
+        exists.then(|| {
+            let (month, day) = year_day::to_date(leap, moved as u32);
+            pack(self.year(), month, day, leap, self.weekday_after(days))
+        })
+    }
+
+    /// Panics, as chrono does, if the date is past the years that there are.
+    fn moved_by_number(self, days: i64) -> NaiveDate {
         let number = i64::from(self.day_number()) + days;
         let number = i32::try_from(number).expect("a day number");
         let (year, month, day) = day_number::to_date(number);
         assert!(YEARS.contains(&year), "the date is out of range");
-        pack(year, month, day, number)
+        let leap = year_day::is_leap(year);
+        pack(year, month, day, leap, number.rem_euclid(7))
+    }
+
+    #[inline]
+    fn weekday_after(self, days: i64) -> i32 {
+        let weekday = (self.0 & 0x7) + days.rem_euclid(7) as i32;
+        if weekday < 7 {
+            weekday
+        } else {
+            weekday - 7
+        }
     }
 
     pub fn and_time(self, time: NaiveTime) -> NaiveDateTime {
@@ -49,12 +108,11 @@ impl NaiveDate {
     }
 }
 
-/// Day number 0 is a Monday.
-fn pack(year: i32, month: u32, day: u32, number: i32) -> NaiveDate {
-    let weekday = number.rem_euclid(7);
-    NaiveDate(
-        year << YEAR_SHIFT | (month << MONTH_SHIFT) as i32 | (day << DAY_SHIFT) as i32 | weekday,
-    )
+/// Weekday 0 is a Monday, and so is day number 0.
+#[inline]
+fn pack(year: i32, month: u32, day: u32, leap: bool, weekday: i32) -> NaiveDate {
+    let month_and_day = (month << MONTH_SHIFT | day << DAY_SHIFT) as i32;
+    NaiveDate(year << YEAR_SHIFT | month_and_day | i32::from(leap) << LEAP_SHIFT | weekday)
 }
 
 impl Datelike for NaiveDate {
@@ -90,6 +148,7 @@ impl Datelike for NaiveDate {
 impl Add<Duration> for NaiveDate {
     type Output = NaiveDate;
 
+    #[inline]
     fn add(self, duration: Duration) -> NaiveDate {
         self.moved(duration.num_days())
     }
@@ -98,6 +157,7 @@ impl Add<Duration> for NaiveDate {
 impl Sub<Duration> for NaiveDate {
     type Output = NaiveDate;
 
+    #[inline]
     fn sub(self, duration: Duration) -> NaiveDate {
         self.moved(-duration.num_days())
     }
@@ -113,12 +173,14 @@ impl Sub for NaiveDate {
 }
 
 impl AddAssign<Duration> for NaiveDate {
+    #[inline]
     fn add_assign(&mut self, duration: Duration) {
         *self = *self + duration;
     }
 }
 
 impl SubAssign<Duration> for NaiveDate {
+    #[inline]
     fn sub_assign(&mut self, duration: Duration) {
         *self = *self - duration;
     }
@@ -209,6 +271,58 @@ mod tests {
         assert_eq!(days, 3_652_059);
         assert_eq!(today - date(1, 1, 1), Duration::days(3_652_058));
         assert_eq!(date(1, 1, 1) - today, Duration::days(-3_652_058));
+    }
+
+    /// Both quick ways, on every day of common and leap years: each answers if it can, and as the day numbers do.
+    #[test]
+    fn quick_ways_agree_with_day_numbers() {
+        let years = [
+            -401, -1, 0, 1, 1899, 1900, 2000, 2020, 2023, 2024, 2100, 9999,
+        ];
+        let all = years.into_iter().flat_map(days_of_year);
+        let mut compared = [0; 3];
+        for (today, days) in all.flat_map(|today| (-800..=800).map(move |days| (today, days))) {
+            let slow = today.moved_by_number(days);
+            let same_year = slow.year() == today.year();
+            let same_month = same_year && slow.month() == today.month();
+            assert_eq!(today.moved(days), slow);
+            assert_eq!(today.moved_in_year(days), same_year.then_some(slow));
+            assert_eq!(today.moved_in_month(days), same_month.then_some(slow));
+            compared[usize::from(same_year) + usize::from(same_month)] += 1;
+        }
+        assert!(
+            compared.iter().all(|&count| count > 100_000),
+            "{compared:?}"
+        );
+    }
+
+    fn days_of_year(year: i32) -> impl Iterator<Item = NaiveDate> {
+        let number = date(year, 1, 1).day_number();
+        let dates = (number..).map(day_number::to_date);
+        let dates = dates.take_while(move |&(of, ..)| of == year);
+        dates.map(|(year, month, day)| date(year, month, day))
+    }
+
+    #[test]
+    fn far_days() {
+        for days in [-4_000_000, -146_097, -36_525, 36_524, 146_097, 4_000_000] {
+            let it = date(2024, 2, 29);
+            assert_eq!(it + Duration::days(days), it.moved_by_number(days));
+            assert_eq!(it + Duration::days(days) - it, Duration::days(days));
+            assert_eq!(it - Duration::days(days), it + Duration::days(-days));
+        }
+    }
+
+    #[test]
+    #[should_panic(expected = "the date is out of range")]
+    fn no_day_after_the_last() {
+        let _ = date(262142, 12, 31) + Duration::days(1);
+    }
+
+    #[test]
+    #[should_panic(expected = "the date is out of range")]
+    fn no_day_before_the_first() {
+        let _ = date(-262143, 1, 1) - Duration::days(1);
     }
 
     #[test]
