@@ -8,8 +8,9 @@ use crate::ANSWERED_YEARS;
 use chrono::NaiveDate;
 use trading_calendar::TradingCalendar;
 
-/// All days of 2020 to 2030 in order, in both forms.
+/// Days of 2020 to 2030 in order, in both forms.
 pub struct Days {
+    inputs: &'static str,
     pub original: Vec<NaiveDate>,
     pub library: Vec<Date>,
 }
@@ -18,20 +19,28 @@ pub const ALL_DAYS: &str = "All days of 2020 to 2030";
 
 impl Days {
     pub fn all() -> Days {
-        let (library, original) = ANSWERED_YEARS.flat_map(days_of).unzip();
-        Days { original, library }
+        Days::with(ALL_DAYS, |_| true)
+    }
+
+    fn decembers() -> Days {
+        Days::with("Decembers of 2020 to 2030", |date| date.month == 12)
+    }
+
+    fn with(inputs: &'static str, has: fn(&Date) -> bool) -> Days {
+        let days = ANSWERED_YEARS.flat_map(days_of);
+        let (library, original) = days.filter(|(date, _)| has(date)).unzip();
+        Days {
+            inputs,
+            original,
+            library,
+        }
     }
 }
 
 pub fn run(report: &mut Report, days: &Days) {
     use TradingCalendar as Original;
-    on_day(
-        report,
-        days,
-        "is_trading_day",
-        Original::is_trading_day,
-        |market, it| tc_is_trading_day(market, it.year, it.month, it.day),
-    );
+    is_trading_day(report, days);
+    is_trading_day(report, &Days::decembers());
     on_day(
         report,
         days,
@@ -62,6 +71,16 @@ pub fn run(report: &mut Report, days: &Days) {
     );
 }
 
+fn is_trading_day(report: &mut Report, days: &Days) {
+    on_day(
+        report,
+        days,
+        "is_trading_day",
+        TradingCalendar::is_trading_day,
+        |market, it| tc_is_trading_day(market, it.year, it.month, it.day),
+    );
+}
+
 /// A call on a market and a date.
 fn on_day<A, B>(
     report: &mut Report,
@@ -71,7 +90,7 @@ fn on_day<A, B>(
     library: impl Fn(u32, &Date) -> B + Copy,
 ) {
     let rounds = report.rounds;
-    report.on_markets(call, ALL_DAYS, |calendar, market| {
+    report.on_markets(call, days.inputs, |calendar, market| {
         in_turn(
             rounds,
             (&days.original, move |date| original(calendar, *date)),
