@@ -18,7 +18,7 @@ fn main() {
 }
 
 fn link_quantlib() {
-    let source = "src/bench_quantlib.cpp";
+    let source = "src/bench/quantlib.cpp";
     let folder = std::env::var("OUT_DIR").expect("a folder");
     let object = format!("{folder}/bench_quantlib.o");
     let archive = format!("{folder}/libbench_quantlib.a");
