@@ -5,12 +5,15 @@ pub mod records;
 pub mod trading_hours;
 
 ghost use mathlib.Core.Path.{_≡_};
-ghost use Rattle.utils.specs.Weekday.{InYears};
+ghost use Prim.Native.Nat.{_+_, _-_, _≤_};
+ghost use Rattle.utils.specs.Weekday.{InYears, mapDay};
+ghost use Rattle.utils.specs.Easter.{calculateEaster};
 ghost use Rattle.answers.specs.Answers.{optionalDate, flagOf, boolAnswer};
 use error::BoolResult;
 use gregorian::Date;
 use gregorian::NO_DATE;
 use utils::OptionalDay;
+use utils::easter::easter_days;
 
 // tc_optional_date of the header, [host-answers]: found is 1 and date is the answer, or every field is 0.
 #[repr(C)]
@@ -18,6 +21,11 @@ pub struct OptionalDate {
     pub found: u32,
     pub date: Date,
 }
+
+const NO_OPTIONAL_DATE: OptionalDate = OptionalDate {
+    found: 0,
+    date: NO_DATE,
+};
 
 pub fn optional_date(day: OptionalDay) -> OptionalDate
     requires { ⌜ InYears day ⌝ }
@@ -28,10 +36,24 @@ pub fn optional_date(day: OptionalDay) -> OptionalDate
             found: 1,
             date: gregorian::date_of(n),
         },
-        OptionalDay::None => OptionalDate {
-            found: 0,
-            date: NO_DATE,
-        },
+        OptionalDay::None => NO_OPTIONAL_DATE,
+    }
+}
+
+// Easter Sunday, or a day before or after it, by the day of March on which it is where Easter is on the 22nd.
+pub fn easter_answer(year: u32, march_day: u32) -> OptionalDate
+    requires { ⌜ (1 ≤ «march_day») × («march_day» ≤ 27) ⌝ }
+    ensures { λ r. ⌜ r ≡ optionalDate (mapDay (λ n. n + «march_day» - 22) (calculateEaster year)) ⌝ }
+{
+    if year < 1 {
+        return NO_OPTIONAL_DATE;
+    }
+    if gregorian::LAST_YEAR < year {
+        return NO_OPTIONAL_DATE;
+    }
+    OptionalDate {
+        found: 1,
+        date: gregorian::march_date(year, march_day + easter_days(year)),
     }
 }
 

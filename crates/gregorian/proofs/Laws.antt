@@ -265,3 +265,7 @@ before-number s t hs ht l =
 -- the year of a date, by its day number
 pub year-of-number : (y m d : ℕ) → isDate y m d ≡ true → y ≡ dateOf (dayNumber y m d) .year
 year-of-number y m d h = sym (ap (λ (t : Date). t .year) (date-of-number (date y m d) (is-date y m d h .exists)))
+
+-- a date by the number of its day
+pub by-number : (y m d n : ℕ) → Exists y m d → dayNumber y m d ≡ n → date y m d ≡ dateOf n
+by-number y m d n x e = sym (date-of-number (date y m d) x) ∙ ap dateOf e

@@ -153,6 +153,26 @@ pub fn date_of(n: u32) -> Date
     }
 }
 
+// The date of a day of March, counted on into April.
+pub fn march_date(year: u32, day: u32) -> Date
+    requires { ⌜ (1 ≤ year) × (year ≤ lastYear) × (1 ≤ day) × (day ≤ 61) ⌝ }
+    ensures { λ r. ⌜ r ≡ dateOf (dayNumber year 3 day) ⌝ }
+{
+    if day < 32 {
+        Date {
+            year,
+            month: 3,
+            day,
+        }
+    } else {
+        Date {
+            year,
+            month: 4,
+            day: day - 31,
+        }
+    }
+}
+
 // 0 Monday to 6 Sunday.
 pub fn weekday(n: u32) -> u32
     ensures { λ r. ⌜ r ≡ weekdayOf n ⌝ }

@@ -13,6 +13,7 @@ ghost use Rattle.answers.specs.Answers.{optionalDate, boolAnswer};
 use answers::BoolAnswer;
 use answers::OptionalDate;
 use answers::bool_answer;
+use answers::easter_answer;
 use answers::optional_date;
 
 // [nth-weekday]: none for nth = 0, and for a weekday, a month, a year or an answer out of range.
@@ -41,7 +42,7 @@ pub extern "C" fn tc_last_weekday_of_month(year: u32, month: u32, weekday: u32) 
 pub extern "C" fn tc_calculate_easter(year: u32) -> OptionalDate
     ensures { λ r. ⌜ r ≡ optionalDate (calculateEaster year) ⌝ }
 {
-    optional_date(utils::easter::calculate_easter(year))
+    easter_answer(year, 22)
 }
 
 // [good-friday]: none outside years 1 to 9999.
@@ -49,7 +50,7 @@ pub extern "C" fn tc_calculate_easter(year: u32) -> OptionalDate
 pub extern "C" fn tc_calculate_good_friday(year: u32) -> OptionalDate
     ensures { λ r. ⌜ r ≡ optionalDate (calculateGoodFriday year) ⌝ }
 {
-    optional_date(utils::easter::calculate_good_friday(year))
+    easter_answer(year, 20)
 }
 
 // [easter-monday]: none outside years 1 to 9999.
@@ -57,7 +58,7 @@ pub extern "C" fn tc_calculate_good_friday(year: u32) -> OptionalDate
 pub extern "C" fn tc_calculate_easter_monday(year: u32) -> OptionalDate
     ensures { λ r. ⌜ r ≡ optionalDate (calculateEasterMonday year) ⌝ }
 {
-    optional_date(utils::easter::calculate_easter_monday(year))
+    easter_answer(year, 23)
 }
 
 // [trading-day]: yes or no, or the first of errors 8, 5 and 1 that applies.

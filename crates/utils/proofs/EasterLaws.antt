@@ -37,11 +37,8 @@ unfolding moonDays
 moon-high a b = rest-30 _
 
 -- whatever is taken off, h + l is at most 35
-pub at-most-35 : (h q x : ℕ) → h ≤ 29 → h + q % 7 - x ≤ 35
+at-most-35 : (h q x : ℕ) → h ≤ 29 → h + q % 7 - x ≤ 35
 at-most-35 h q x k = omega arith
-
-pub days-fit : (n h q x : ℕ) → n ≤ lastDay → h ≤ 29 → n + (h + q % 7 - x) < 2 ^ 32
-days-fit n h q x l k = omega (arith, at-most-35 h q x k)
 
 -- The days from 22 March to Easter, h + l - 7 * m, from the year and h: at most 34.
 unfoldable pub daysAfter : ℕ → ℕ → ℕ
@@ -68,7 +65,7 @@ march x h = omega arith
 april : (x : ℕ) → 10 ≤ x → x ≤ 35 → ((x + 114) / 31 ≡ 4) × ((x + 114) % 31 + 1 ≡ x - 9)
 april x l h = omega arith
 
-pub days-date : (y x : ℕ) → 1 ≤ y → y ≤ lastYear → x ≤ 35 → isDate y ((x + 114) / 31) ((x + 114) % 31 + 1) ≡ true
+days-date : (y x : ℕ) → 1 ≤ y → y ≤ lastYear → x ≤ 35 → isDate y ((x + 114) / 31) ((x + 114) % 31 + 1) ≡ true
 unfolding monthLength
 days-date y x l h k = elim (decLt x 10) [
   | yes a ↦ let e = march x a in rw (e .0, e .1) (date-by y 3 (x + 22) (l, h) (omega arith) (omega arith))
@@ -121,6 +118,14 @@ easter-day y n e =
       low = omega (arith, q, day-low y 3 22, easter-range y);
       high = omega (arith, q, r);
     }
+
+pub map-day-same : (f g : ℕ → ℕ) (r : OptionalDay) → ((n : ℕ) → f n ≡ g n) → mapDay f r ≡ mapDay g r
+map-day-same f g (Day n) e = ap Day (e n)
+map-day-same f g None e = refl
+
+pub map-day-id : (r : OptionalDay) → mapDay (λ n. n) r ≡ r
+map-day-id (Day n) = refl
+map-day-id None = refl
 
 -- what `?` makes of an answer
 pub after-none : (f : ℕ → ℕ) (y : ℕ) → None ≡ calculateEaster y → None ≡ mapDay f (calculateEaster y)

@@ -1,8 +1,9 @@
 // Easter by the Anonymous Gregorian algorithm, Good Friday and Easter Monday: docs/SCOPE.md [easter], [good-friday],
 // [easter-monday].
 ghost use mathlib.Core.Path.{_≡_};
-ghost use Prim.Native.Nat.{_≤_};
-ghost use Rattle.utils.specs.Easter.{moonDays, calculateEaster, calculateGoodFriday, calculateEasterMonday};
+ghost use Prim.Native.Nat.{_+_, _≤_};
+ghost use Rattle.gregorian.specs.Calendar.{lastYear, dayNumber};
+ghost use Rattle.utils.specs.Easter.{moonDays, easter, calculateEaster, calculateGoodFriday, calculateEasterMonday};
 use crate::OptionalDay;
 
 // h of the algorithm, from its a and b.
@@ -16,16 +17,12 @@ fn moon_days(a: u32, b: u32) -> u32
     (19 * a + b - d - g + 15) % 30
 }
 
-// The month and the day that the algorithm makes of h + l - 7 * m are those of the day so many days after 22 March.
-pub fn calculate_easter(year: u32) -> OptionalDay
-    ensures { λ r. ⌜ r ≡ calculateEaster year ⌝ }
+// How many days Easter Sunday is after 22 March: the month and the day that the algorithm makes of h + l - 7 * m are those of the
+// day so many days later.
+pub fn easter_days(year: u32) -> u32
+    requires { ⌜ (1 ≤ year) × (year ≤ lastYear) ⌝ }
+    ensures { λ r. ⌜ (easter year ≡ dayNumber year 3 22 + r) × (r ≤ 34) ⌝ }
 {
-    if year < 1 {
-        return OptionalDay::None;
-    }
-    if gregorian::LAST_YEAR < year {
-        return OptionalDay::None;
-    }
     let a = year % 19;
     let b = year / 100;
     let c = year % 100;
@@ -35,8 +32,19 @@ pub fn calculate_easter(year: u32) -> OptionalDay
     let k = c % 4;
     let l = (32 + 2 * e + 2 * i - h - k) % 7;
     let m = (a + 11 * h + 22 * l) / 451;
-    let days = h + l - 7 * m;
-    let easter = gregorian::day_number(year, 3, 22) + days;
+    h + l - 7 * m
+}
+
+pub fn calculate_easter(year: u32) -> OptionalDay
+    ensures { λ r. ⌜ r ≡ calculateEaster year ⌝ }
+{
+    if year < 1 {
+        return OptionalDay::None;
+    }
+    if gregorian::LAST_YEAR < year {
+        return OptionalDay::None;
+    }
+    let easter = gregorian::day_number(year, 3, 22) + easter_days(year);
     OptionalDay::Day(easter)
 }
 

@@ -1,18 +1,17 @@
--- `trading_calendar::tc_calculate_easter_monday` meets its contract: the answer is a day of years 1 to 9999, or none.
-use mathlib.Core.Path.{ap, sym, _∙_, subst}
+-- `trading_calendar::tc_calculate_easter_monday` meets its contract: so many days from Easter.
+use Prim.Native.Nat.{ℕ, _+_}
+use mathlib.Core.Path.{_≡_, ap, _∙_}
+use native.Mathlib.Omega.{arith}
 use borrow.Author.Needs.{needs}
-use Rattle.utils.specs.Weekday.{InYears}
-use Rattle.utils.proofs.EasterLaws.{easter-monday-in-years}
+use Rattle.utils.specs.Easter.{calculateEaster, calculateEasterMonday}
+use Rattle.utils.proofs.EasterLaws.{map-day-same}
 use Rattle.answers.specs.Answers.{optionalDate}
 use Rattle.trading_calendar.proofs.tc_calculate_easter_monday.Statement.{statement}
 use Rattle.trading_calendar.proofs.tc_calculate_easter_monday.Tie as tie
 
-optional-date-requires : tie.Need-optional-date-requires
-optional-date-requires c κs = subst InYears (sym (c .calculate-easter-monday .ensures)) (easter-monday-in-years (c .before .args .year))
-
 returns : tie.Need-returns
-returns c = c .optional-date .ensures ∙ ap optionalDate (c .before .calculate-easter-monday .ensures)
+unfolding calculateEasterMonday
+returns c = c .easter-answer .ensures ∙ ap optionalDate (map-day-same _ (λ n. n + 1) (calculateEaster (c .before .args .year)) (λ n. omega arith))
 
 pub tc-calculate-easter-monday-spec : {M : Type 1} → statement M
-tc-calculate-easter-monday-spec =
-    tie.close (tie.spec (search needs) optional-date-requires returns)
+tc-calculate-easter-monday-spec = tie.close (tie.spec (search needs) returns)

@@ -1,18 +1,17 @@
--- `trading_calendar::tc_calculate_good_friday` meets its contract: the answer is a day of years 1 to 9999, or none.
-use mathlib.Core.Path.{ap, sym, _∙_, subst}
+-- `trading_calendar::tc_calculate_good_friday` meets its contract: so many days from Easter.
+use Prim.Native.Nat.{ℕ, _-_}
+use mathlib.Core.Path.{_≡_, ap, _∙_}
+use native.Mathlib.Omega.{arith}
 use borrow.Author.Needs.{needs}
-use Rattle.utils.specs.Weekday.{InYears}
-use Rattle.utils.proofs.EasterLaws.{good-friday-in-years}
+use Rattle.utils.specs.Easter.{calculateEaster, calculateGoodFriday}
+use Rattle.utils.proofs.EasterLaws.{map-day-same}
 use Rattle.answers.specs.Answers.{optionalDate}
 use Rattle.trading_calendar.proofs.tc_calculate_good_friday.Statement.{statement}
 use Rattle.trading_calendar.proofs.tc_calculate_good_friday.Tie as tie
 
-optional-date-requires : tie.Need-optional-date-requires
-optional-date-requires c κs = subst InYears (sym (c .calculate-good-friday .ensures)) (good-friday-in-years (c .before .args .year))
-
 returns : tie.Need-returns
-returns c = c .optional-date .ensures ∙ ap optionalDate (c .before .calculate-good-friday .ensures)
+unfolding calculateGoodFriday
+returns c = c .easter-answer .ensures ∙ ap optionalDate (map-day-same _ (λ n. n - 2) (calculateEaster (c .before .args .year)) (λ n. omega arith))
 
 pub tc-calculate-good-friday-spec : {M : Type 1} → statement M
-tc-calculate-good-friday-spec =
-    tie.close (tie.spec (search needs) optional-date-requires returns)
+tc-calculate-good-friday-spec = tie.close (tie.spec (search needs) returns)
