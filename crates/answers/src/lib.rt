@@ -6,7 +6,7 @@ pub mod trading_hours;
 
 ghost use mathlib.Core.Path.{_≡_};
 ghost use Prim.Native.Nat.{_+_, _-_, _≤_};
-ghost use Rattle.utils.specs.Weekday.{InYears, mapDay};
+ghost use Rattle.utils.specs.Weekday.{InYears, mapDay, nthWeekdayOfMonth};
 ghost use Rattle.utils.specs.Easter.{calculateEaster};
 ghost use Rattle.answers.specs.Answers.{optionalDate, flagOf, boolAnswer};
 use error::BoolResult;
@@ -14,6 +14,8 @@ use gregorian::Date;
 use gregorian::NO_DATE;
 use utils::OptionalDay;
 use utils::easter::easter_days;
+use utils::first_weekday;
+use utils::nth_weekday_of_month;
 
 // tc_optional_date of the header, [host-answers]: found is 1 and date is the answer, or every field is 0.
 #[repr(C)]
@@ -38,6 +40,22 @@ pub fn optional_date(day: OptionalDay) -> OptionalDate
         },
         OptionalDay::None => NO_OPTIONAL_DATE,
     }
+}
+
+// The nth weekday of a month. The first four are in the month itself, and need no day number.
+pub fn nth_weekday_answer(year: u32, month: u32, weekday: u32, nth: u8) -> OptionalDate
+    ensures { λ r. ⌜ r ≡ optionalDate (nthWeekdayOfMonth year month weekday nth) ⌝ }
+{
+    let is_early = (1 <= nth) & (nth <= 4) & (weekday <= 6);
+    if is_early & gregorian::is_date(year, month, 1) {
+        let first = first_weekday(year, month, weekday);
+        let day = first + 7 * (nth as u32 - 1);
+        return OptionalDate {
+            found: 1,
+            date: Date { year, month, day },
+        };
+    }
+    optional_date(nth_weekday_of_month(year, month, weekday, nth))
 }
 
 // Easter Sunday, or a day before or after it, by the day of March on which it is where Easter is on the 22nd.

@@ -269,3 +269,10 @@ year-of-number y m d h = sym (ap (λ (t : Date). t .year) (date-of-number (date 
 -- a date by the number of its day
 pub by-number : (y m d n : ℕ) → Exists y m d → dayNumber y m d ≡ n → date y m d ≡ dateOf n
 by-number y m d n x e = sym (date-of-number (date y m d) x) ∙ ap dateOf e
+
+-- one of the first 28 days of a month
+pub early-date : (y m d : ℕ) → isDate y m 1 ≡ true → 1 ≤ d → d ≤ 28 → isDate y m d ≡ true
+early-date y m d h l u =
+    let g = is-date y m 1 h in
+    let e = g .exists in
+    date-by y m d (e .y-low, g .y-high) (e .m-low, e .m-high) (l, omega (arith, month-low y m (e .m-low) (e .m-high)))

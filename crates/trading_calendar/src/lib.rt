@@ -14,6 +14,7 @@ use answers::BoolAnswer;
 use answers::OptionalDate;
 use answers::bool_answer;
 use answers::easter_answer;
+use answers::nth_weekday_answer;
 use answers::optional_date;
 
 // [nth-weekday]: none for nth = 0, and for a weekday, a month, a year or an answer out of range.
@@ -26,7 +27,7 @@ pub extern "C" fn tc_nth_weekday_of_month(
 ) -> OptionalDate
     ensures { λ r. ⌜ r ≡ optionalDate (nthWeekdayOfMonth year month weekday nth) ⌝ }
 {
-    optional_date(utils::nth_weekday_of_month(year, month, weekday, nth))
+    nth_weekday_answer(year, month, weekday, nth)
 }
 
 // [last-weekday]: none in December 9999, and for a weekday, a month or a year out of range.

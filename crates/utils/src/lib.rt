@@ -6,8 +6,8 @@ ghost use mathlib.Core.Path.{_≡_};
 ghost use mathlib.Core.Bool.{true};
 ghost use Prim.Native.Nat.{_≤_};
 ghost use lib.Dec.{eqb};
-ghost use Rattle.gregorian.specs.Calendar.{lastYear, isDate};
-ghost use Rattle.utils.specs.Weekday.{targetDay, ifInMonth, nthWeekdayOfMonth, nextMonth, nextYear, firstOfNext, lastUpTo, lastWeekdayOfMonth};
+ghost use Rattle.gregorian.specs.Calendar.{lastYear, dayNumber, isDate};
+ghost use Rattle.utils.specs.Weekday.{firstFrom, targetDay, ifInMonth, nthWeekdayOfMonth, nextMonth, nextYear, firstOfNext, lastUpTo, lastWeekdayOfMonth};
 use gregorian::Date;
 
 // In the place of the Rust's Option<NaiveDate>: a day number, or none.
@@ -16,14 +16,22 @@ pub enum OptionalDay {
     None,
 }
 
+// The day of the month, from 1 to 7, that is its first such weekday.
+pub fn first_weekday(year: u32, month: u32, weekday: u32) -> u32
+    requires { ⌜ (isDate year month 1 ≡ true) × (weekday ≤ 6) ⌝ }
+    ensures { λ r. ⌜ (dayNumber year month r ≡ firstFrom (dayNumber year month 1) weekday) × (1 ≤ r) × (r ≤ 7) ⌝ }
+{
+    let first_day = gregorian::day_number(year, month, 1);
+    1 + (weekday + 7 - gregorian::weekday(first_day)) % 7
+}
+
 // nth - 1 weeks after the first such weekday of the month.
 fn target_day(year: u32, month: u32, weekday: u32, nth: u8) -> u32
     requires { ⌜ (isDate year month 1 ≡ true) × (weekday ≤ 6) × (1 ≤ nth) ⌝ }
     ensures { λ r. ⌜ (r ≡ targetDay year month weekday nth) × (1 ≤ r) ⌝ }
 {
-    let first_day = gregorian::day_number(year, month, 1);
-    let days_to_add = (weekday + 7 - gregorian::weekday(first_day)) % 7;
-    first_day + days_to_add + 7 * (nth as u32 - 1)
+    let first = first_weekday(year, month, weekday);
+    gregorian::day_number(year, month, first) + 7 * (nth as u32 - 1)
 }
 
 // The year is not compared.
