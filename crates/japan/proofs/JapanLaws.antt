@@ -11,7 +11,7 @@ use native.Mathlib.Omega.{arith}
 use native.Mathlib.Nat.{eq-or-lt-of-le, le-of-suc-le-suc}
 use borrow.Author.Tests.{leb-true, ltb-true, eqb-true, ne-eqb}
 use Rattle.gregorian.specs.Calendar.{monday, friday, sunday, dayNumber, lastYear, isDate, weekdayOf, date}
-use Rattle.gregorian.proofs.Tests.{and-left, and-right}
+use Rattle.gregorian.proofs.Tests.{and-left, and-right, and-false}
 use Rattle.gregorian.proofs.Laws.{days-on, is-date, date-by, month-low, number-before}
 use Rattle.utils.specs.declared.OptionalDay.{OptionalDay}
 use Rattle.utils.specs.declared.OptionalDay.the-variants.{Day, None}
@@ -145,10 +145,6 @@ without : (p a b c d e : Bool) → (d ≡ true → p ≡ true) → (p || a || b 
 without true a b c d e h = refl
 without false a b c true e h = cc (h refl)
 without false a b c false e h = ap (λ (t : Bool). t || e) (or-false (a || b || c)) ∙ sym (or-assoc a (b || c) e ∙ ap (λ (t : Bool). t || e) (or-assoc a b c))
-
-and-false : (a : Bool) → (a && false) ≡ false
-and-false true = refl
-and-false false = refl
 
 or-true : (a : Bool) → (a || true) ≡ true
 or-true true = refl

@@ -8,6 +8,7 @@ use native.Mathlib.Decide.{decLt}
 use native.Mathlib.Omega.{arith}
 use borrow.Author.Tests.{lt-ltb, le-ltb, le-leb, lt-leb}
 use Rattle.gregorian.specs.declared.Date.{Date}
+use Rattle.gregorian.proofs.Tests.{and-true}
 use Rattle.gregorian.proofs.Total.{upto}
 use Rattle.days.proofs.DayLaws.{or-false}
 use Rattle.schedule.specs.declared.TradingHours.{TradingHours}
@@ -44,10 +45,6 @@ pub by-code : (m k : ℕ) (date : Date) (hours : TradingHours) → hours ≡ tra
 by-code m k date hours e h = e ∙ ap (λ (i : ℕ). tradingHours i date) (sym h)
 
 -- ---- when the hours of a market are open
-
-and-true : (a : Bool) → (a && true) ≡ a
-and-true true = refl
-and-true false = refl
 
 -- Two sessions of which one ends where the next starts are open as one is.
 meet : (a b c t : ℕ) → a ≤ b → b ≤ c → (leb a t && ltb t b || leb b t && ltb t c) ≡ (leb a t && ltb t c)

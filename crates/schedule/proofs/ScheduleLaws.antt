@@ -1,22 +1,19 @@
 -- The laws of sessions and hours: what each case comes to.
 -- Assumes nothing.
 use Prim.Native.Nat.{ℕ, _≤_, _<_}
-use mathlib.Core.Path.{_≡_, refl, ap, sym, _∙_}
+use mathlib.Core.Path.{_≡_, ap, sym, _∙_}
 use mathlib.Core.Bool.{Bool, true, false, _&&_, _||_}
 use lib.Dec.{ltb, leb}
 use native.Mathlib.Decide.{decLt}
 use native.Mathlib.Omega.{arith}
 use borrow.Author.Tests.{lt-ltb, le-ltb, le-leb, lt-leb}
+use Rattle.gregorian.proofs.Tests.{and-false}
 use Rattle.error.specs.declared.CalendarError.the-variants.{InvalidTime}
 use Rattle.schedule.specs.declared.Session.{Session}
 use Rattle.schedule.specs.declared.OptionalTime.{OptionalTime}
 use Rattle.schedule.specs.declared.TradingHours.{TradingHours}
 use Rattle.schedule.specs.declared.HoursResult.{HoursResult}
 use Rattle.schedule.specs.Schedule.{contains, mayContain, isReached, marketClose, isRegularAt, isAfterHoursAt, setEarlyClose, withEarlyClose}
-
-and-false : (b : Bool) → (b && false) ≡ false
-and-false true = refl
-and-false false = refl
 
 from-or-before : (a b t : ℕ) → a ≤ b → (leb a t || ltb t b) ≡ true
 from-or-before a b t h = elim (decLt t a) [

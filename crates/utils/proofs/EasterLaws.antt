@@ -1,6 +1,6 @@
 -- Easter by the Anonymous Gregorian algorithm: a date, from 22 March to 25 April.
 -- Assumes nothing.
-use Prim.Native.Nat.{ℕ, _+_, _-_, _*_, _/_, _%_, _^_, _≤_, _<_}
+use Prim.Native.Nat.{ℕ, _+_, _-_, _*_, _/_, _%_, _≤_, _<_}
 use mathlib.Core.Path.{_≡_, refl, ap, ap₂, _∙_}
 use mathlib.Core.Bool.{true, _&&_}
 use lib.Dec.{leb}
@@ -12,8 +12,8 @@ use Rattle.gregorian.proofs.Tests.{and-left, and-right}
 use Rattle.gregorian.proofs.Laws.{date-by, number-range}
 use Rattle.utils.specs.declared.OptionalDay.{OptionalDay}
 use Rattle.utils.specs.declared.OptionalDay.the-variants.{Day, None}
-use Rattle.utils.specs.Weekday.{InYears, mapDay}
-use Rattle.utils.specs.Easter.{moonDays, easter, calculateEaster, calculateGoodFriday, calculateEasterMonday}
+use Rattle.utils.specs.Weekday.{mapDay}
+use Rattle.utils.specs.Easter.{moonDays, easter, calculateEaster}
 use Rattle.utils.proofs.WeekdayLaws.{when-day}
 
 pub rest-30 : (n : ℕ) → n % 30 ≤ 29
@@ -137,26 +137,3 @@ after-day f y n e = ap (mapDay f) e
 pub easter-found : (y : ℕ) → 1 ≤ y → y ≤ lastYear → calculateEaster y ≡ Day (easter y)
 unfolding calculateEaster
 easter-found y l h = simp (le-leb 1 y l, le-leb y lastYear h)
-
--- The three answers are days of years 1 to 9999, or none.
-easter-cases : (P : OptionalDay → Type 0) (y : ℕ) (r : OptionalDay) → calculateEaster y ≡ r → P None → ((n : ℕ) → EasterDay y n → P (Day n)) → P r
-easter-cases P y (Day n) e z h = h n (easter-day y n e)
-easter-cases P y None e z h = z
-
-pub easter-in-years : (y : ℕ) → InYears (calculateEaster y)
-easter-in-years y = easter-cases InYears y (calculateEaster y) refl tt (λ n d. omega (arith, d .low, d .high))
-
-pub good-friday-in-years : (y : ℕ) → InYears (calculateGoodFriday y)
-unfolding calculateGoodFriday
-good-friday-in-years y =
-    easter-cases (λ r. InYears (mapDay (λ n. n - 2) r)) y (calculateEaster y) refl tt (λ n d. omega (arith, d .low, d .high))
-
-april-26 : (y : ℕ) → 1 ≤ y → y ≤ lastYear → isDate y 4 26 ≡ true
-unfolding monthLength
-april-26 y l h = date-by y 4 26 (l, h) (omega arith) (omega arith)
-
-pub easter-monday-in-years : (y : ℕ) → InYears (calculateEasterMonday y)
-unfolding calculateEasterMonday dayNumber
-easter-monday-in-years y =
-    easter-cases (λ r. InYears (mapDay (λ n. n + 1) r)) y (calculateEaster y) refl tt
-    (λ n d. omega (arith, d .is-easter, easter-range y, number-range y 4 26 (april-26 y (d .y-low) (d .y-high))))

@@ -6,12 +6,9 @@ use lib.Dec.{eqb}
 use native.Mathlib.Omega.{arith}
 use borrow.Author.Tests.{eqb-true, eq-eqb}
 use Rattle.gregorian.specs.Calendar.{leap}
+use Rattle.gregorian.proofs.Tests.{and-true}
 use Rattle.gregorian.proofs.is_leap.Statement.{statement}
 use Rattle.gregorian.proofs.is_leap.Tie as tie
-
-and-true : (a : Bool) → (a && true) ≡ a
-and-true true = refl
-and-true false = refl
 
 -- where 100 divides the year, so does 4
 by-hundred : (y : ℕ) (b : Bool) → eqb (y % 100) 0 ≡ b → (eqb (y % 4) 0 && (not (eqb (y % 100) 0) || eqb (y % 400) 0)) ≡ leap y

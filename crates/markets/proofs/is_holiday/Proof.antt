@@ -1,9 +1,8 @@
 -- `markets::is_holiday` meets its contract: each arm of the code.
 use Prim.Native.Nat.{ℕ, _≤_}
-use mathlib.Core.Path.{_≡_, refl, ap, sym, _∙_}
+use mathlib.Core.Path.{refl, ap, sym, _∙_}
 use mathlib.Core.List.{List}
 use native.Mathlib.Omega.{arith}
-use borrow.Author.Needs.{needs}
 use Rattle.gregorian.specs.Calendar.{lastYear}
 use Rattle.days.specs.Days.{contains}
 use Rattle.markets.specs.Markets.{holidays}

@@ -1,10 +1,10 @@
 -- `utils::easter::easter_days` meets its contract: no difference falls below 0, and the letters are the definition's.
 use Prim.Native.Nat.{ℕ, _+_}
-use mathlib.Core.Path.{_≡_, ap, sym, _∙_}
+use mathlib.Core.Path.{ap, sym, _∙_}
 use native.Mathlib.Omega.{arith}
 use borrow.Author.Needs.{needs}
 use Rattle.gregorian.specs.Calendar.{dayNumber}
-use Rattle.utils.proofs.EasterLaws.{daysAfter, easterDays, easter-days, days-high}
+use Rattle.utils.proofs.EasterLaws.{daysAfter, easter-days, days-high}
 use Rattle.utils.proofs.easter.easter_days.Statement.{statement}
 use Rattle.utils.proofs.easter.easter_days.Tie as tie
 
