@@ -3,8 +3,9 @@
 pub mod counts;
 
 ghost use mathlib.Core.Path.{_≡_};
+ghost use mathlib.Core.Bool.{true};
 ghost use Prim.Native.Nat.{_≤_};
-ghost use Rattle.gregorian.specs.Calendar.{lastDay};
+ghost use Rattle.gregorian.specs.Calendar.{lastDay, isDate, dayNumber, dateOf};
 ghost use Rattle.utils.specs.Weekday.{InYears};
 ghost use Rattle.range_calls.specs.RangeCalls.{distanceOf, tradingDay, tradingDayResult, nextTradingDayResult, previousTradingDayResult};
 use calendar::DayResult;
@@ -34,12 +35,39 @@ fn distance(n: u32, m: u32) -> u32
     if n < m { m - n } else { n - m }
 }
 
-// The answer m to a call on day n of that year.
-fn trading_day(year: u32, n: u32, m: u32) -> TradingDay
-    requires { ⌜ (1 ≤ m) × (m ≤ lastDay) ⌝ }
+// The date of day m, from that of day n: one in the same month, not past its 28th, needs no conversion.
+fn date_beside(year: u32, month: u32, day: u32, n: u32, m: u32) -> Date
+    requires { ⌜ (isDate year month day ≡ true) × (n ≡ dayNumber year month day) × (1 ≤ m) × (m ≤ lastDay) ⌝ }
+    ensures { λ r. ⌜ r ≡ dateOf m ⌝ }
+{
+    if n < m {
+        let later = day + (m - n);
+        if 28 < later {
+            return gregorian::date_of(m);
+        }
+        return Date {
+            year,
+            month,
+            day: later,
+        };
+    }
+    let back = n - m;
+    if day <= back {
+        return gregorian::date_of(m);
+    }
+    Date {
+        year,
+        month,
+        day: day - back,
+    }
+}
+
+// The answer m to a call on day n, the day of that date.
+fn trading_day(year: u32, month: u32, day: u32, n: u32, m: u32) -> TradingDay
+    requires { ⌜ (isDate year month day ≡ true) × (n ≡ dayNumber year month day) × (1 ≤ m) × (m ≤ lastDay) ⌝ }
     ensures { λ r. ⌜ r ≡ tradingDay year n m ⌝ }
 {
-    let date = gregorian::date_of(m);
+    let date = date_beside(year, month, day, n, m);
     TradingDay {
         date,
         distance: distance(n, m),
@@ -48,12 +76,18 @@ fn trading_day(year: u32, n: u32, m: u32) -> TradingDay
 }
 
 // Error 6 where there is no answer.
-fn trading_day_result(year: u32, n: u32, neighbour: OptionalDay) -> TradingDayResult
-    requires { ⌜ InYears neighbour ⌝ }
+fn trading_day_result(
+    year: u32,
+    month: u32,
+    day: u32,
+    n: u32,
+    neighbour: OptionalDay,
+) -> TradingDayResult
+    requires { ⌜ (isDate year month day ≡ true) × (n ≡ dayNumber year month day) × InYears neighbour ⌝ }
     ensures { λ r. ⌜ r ≡ tradingDayResult year n neighbour ⌝ }
 {
     match neighbour {
-        OptionalDay::Day(m) => TradingDayResult::Ok(trading_day(year, n, m)),
+        OptionalDay::Day(m) => TradingDayResult::Ok(trading_day(year, month, day, n, m)),
         OptionalDay::None => TradingDayResult::Err(CalendarError::NoTradingDayFound),
     }
 }
@@ -63,7 +97,9 @@ pub fn next_trading_day(market: u32, year: u32, month: u32, day: u32) -> Trading
     ensures { λ r. ⌜ r ≡ nextTradingDayResult market year month day ⌝ }
 {
     match checked_day(market, year, month, day) {
-        DayResult::Ok(n) => { trading_day_result(year, n, neighbours::next_trading_day(market, n)) }
+        DayResult::Ok(n) => {
+            trading_day_result(year, month, day, n, neighbours::next_trading_day(market, n))
+        }
         DayResult::Err(e) => TradingDayResult::Err(e),
     }
 }
@@ -74,7 +110,13 @@ pub fn previous_trading_day(market: u32, year: u32, month: u32, day: u32) -> Tra
 {
     match checked_day(market, year, month, day) {
         DayResult::Ok(n) => {
-            trading_day_result(year, n, neighbours::previous_trading_day(market, n))
+            trading_day_result(
+                year,
+                month,
+                day,
+                n,
+                neighbours::previous_trading_day(market, n),
+            )
         }
         DayResult::Err(e) => TradingDayResult::Err(e),
     }

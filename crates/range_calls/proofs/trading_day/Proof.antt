@@ -12,9 +12,9 @@ returns : tie.Need-returns
 unfolding tradingDay
 returns c =
     let s = c .before .before .before in
-    let year = c .is-supported2 .ensures ∙ ap (λ (t : Date). isSupported (t .year)) (s .date-of .ensures) in
-    λ j. record { date = s .date-of .ensures j; distance = c .before .before .distance .ensures j; outside = not (c .before .is-supported .ensures j) || not (year j) }
+    let year = c .is-supported2 .ensures ∙ ap (λ (t : Date). isSupported (t .year)) (s .date-beside .ensures) in
+    λ j. record { date = s .date-beside .ensures j; distance = c .before .before .distance .ensures j; outside = not (c .before .is-supported .ensures j) || not (year j) }
 
 pub trading-day-spec : {M : Type 1} → statement M
 trading-day-spec =
-    tie.close (tie.spec (search needs) (search needs) (search needs) (search needs) returns)
+    tie.close (tie.spec (λ c κs. c .pre) (search needs) (search needs) (search needs) returns)

@@ -8,7 +8,10 @@ use Rattle.range_calls.proofs.trading_day_result.Statement.{statement}
 use Rattle.range_calls.proofs.trading_day_result.Tie as tie
 
 trading-day-requires : tie.Need-trading-day-requires
-trading-day-requires c κs = subst InYears (c .before .neighbour .given .1) (c .before .before .before .pre)
+trading-day-requires c κs =
+    let h = c .before .before .before .pre in
+    let m = subst InYears (c .before .neighbour .given .1) (h .2) in
+    (h .0, h .1, m .0, m .1)
 
 returns : tie.Need-returns
 unfolding tradingDayResult
