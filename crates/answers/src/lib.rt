@@ -1,4 +1,5 @@
-// The C structs of the answers, and how each result becomes one. Labels in brackets are those of docs/SCOPE.md.
+// The C structs of the answers, and how each result becomes one; the nth weekday and Easter, whose dates need no day number. Labels
+// in brackets are those of docs/SCOPE.md.
 pub mod counts;
 pub mod neighbours;
 pub mod records;
