@@ -1,5 +1,5 @@
-// The C structs of the answers, and how each result becomes one; the nth weekday and Easter, whose dates need no day number. Labels
-// in brackets are those of docs/SCOPE.md.
+// The C structs of the answers, and how each result becomes one; the nth weekday and Easter, whose dates are not made from a day
+// number. Labels in brackets are those of docs/SCOPE.md.
 pub mod counts;
 pub mod neighbours;
 pub mod records;
@@ -43,7 +43,7 @@ pub fn optional_date(day: OptionalDay) -> OptionalDate
     }
 }
 
-// The nth weekday of a month. The first four are in the month itself, and need no day number.
+// The nth weekday of a month. The first four are in the month itself, so their date is the month's with another day.
 pub fn nth_weekday_answer(year: u32, month: u32, weekday: u32, nth: u8) -> OptionalDate
     ensures { λ r. ⌜ r ≡ optionalDate (nthWeekdayOfMonth year month weekday nth) ⌝ }
 {
