@@ -9,13 +9,15 @@ use Rattle.gregorian.specs.declared.Date.{Date}
 use Rattle.gregorian.specs.Calendar.{isDateOf, number, dayBefore}
 use Rattle.gregorian.proofs.Laws.{number-of-date, date-of-is}
 use Rattle.markets.specs.Markets.{isTradingDay}
-use Rattle.ranges.specs.Ranges.{Every, countTradingDays, parts, sumOf}
+use Rattle.ranges.specs.Ranges.{countTradingDays, parts, sumOf}
 use Rattle.ranges.specs.Agreement.{Splits, countOf}
 use Rattle.ranges.proofs.Counts.{count-none, splits-order}
 use Rattle.longest_run.proofs.Markets.{bounds}
-use Rattle.error.specs.declared.CountResult.{CountResult}
 use Rattle.range_calls.proofs.CountLaws.{count-of-dates}
-use Rattle.agreement.specs.CallsAgree.{countCall, Part, partsOf, SplitDates}
+use Rattle.answers.specs.declared.counts.CountAnswer.{CountAnswer}
+use Rattle.answers.specs.Answers.{countAnswer}
+use Rattle.answers.specs.Expected.{noError}
+use Rattle.agreement.specs.CallsAgree.{countCall, partsOf, SplitDates}
 use Rattle.agreement.proofs.Dates.{low, high, year-from, year-to}
 
 -- The split dates as day numbers.
@@ -34,30 +36,30 @@ module _ (t : Date) (l : low ≤ number t) (h : number t ≤ suc high) where
 module _ (market : ℕ) (known : market ≤ 4) where
   -- The call gives no error where the start is not before 2020 and the end not after 2030.
   pub counted : (start end : Date) → isDateOf start ≡ true → isDateOf end ≡ true → low ≤ number start → number end ≤ high
-      → countCall market start end ≡ CountResult.Ok (countTradingDays (isTradingDay market) (number start) (number end))
+      → countCall market start end ≡ noError (countTradingDays (isTradingDay market) (number start) (number end))
+  unfolding countAnswer
   counted start end p q l u =
-      count-of-dates market (start .year) (start .month) (start .day) (end .year) (end .month) (end .day) known p q (year-from start p l) (year-to end q u)
+      ap countAnswer (count-of-dates market (start .year) (start .month) (start .day) (end .year) (end .month) (end .day) known p q (year-from start p l) (year-to end q u))
 
-  pub empty-part : (split : Date) → isDateOf split ≡ true → low ≤ number split → number split ≤ suc high → countCall market split (dayBefore split) ≡ CountResult.Ok 0
+  pub empty-part : (split : Date) → isDateOf split ≡ true → low ≤ number split → number split ≤ suc high → countCall market split (dayBefore split) ≡ noError 0
   empty-part split p l u =
       let e = number-of-day-before split l u in
       counted split (dayBefore split) p (day-before-is-date split l u) l (omega (arith, e))
-      ∙ ap CountResult.Ok (count-none (isTradingDay market) (number split) (number (dayBefore split)) (omega (arith, bounds, e)))
+      ∙ ap noError (count-none (isTradingDay market) (number split) (number (dayBefore split)) (omega (arith, bounds, e)))
 
   -- The calls on the parts answer the counts of the parts, and these add up as on day numbers.
-  abbrev pub countOfPart : Part → ℕ
-  countOfPart p = countTradingDays (isTradingDay market) (number (p .start)) (number (p .end))
-
   pub part-counts : (first : Date) (splits : List Date) (last : Date) → isDateOf first ≡ true → low ≤ number first → isDateOf last ≡ true → number last ≤ high → SplitDates first splits last
-      → Every (λ p. countCall market (p .start) (p .end) ≡ CountResult.Ok (countOfPart p)) (partsOf first splits last)
-      × (sumOf countOfPart (partsOf first splits last) ≡ sumOf (countOf (isTradingDay market)) (parts (number first) (map number splits) (number last)))
-  part-counts first [] last p l q u s = ((counted first last p q l u, tt), refl)
+      → (counts : List ℕ) × (map (λ p. countCall market (p .start) (p .end)) (partsOf first splits last) ≡ map noError counts)
+      × (sumOf (λ n. n) counts ≡ sumOf (countOf (isTradingDay market)) (parts (number first) (map number splits) (number last)))
+  part-counts first [] last p l q u s =
+      (countTradingDays (isTradingDay market) (number first) (number last) ∷ [], ap (λ (a : CountAnswer). a ∷ []) (counted first last p q l u), refl)
   part-counts first (split ∷ splits) last p l q u s =
       let order = splits-order (number split) (map number splits) (number last) (splits-of split splits last (s .2)) in
       let from : low ≤ number split = omega (arith, s .1) in
       let to : number split ≤ suc high = omega (arith, order) in
       let e = number-of-day-before split from to in
       let rest = part-counts split splits last (s .0) from q u (s .2) in (
-        (counted first (dayBefore split) p (day-before-is-date split from to) l (omega (arith, e)), rest .0),
-        ap₂ (λ (i j : ℕ). countTradingDays (isTradingDay market) (number first) i + j) e (rest .1),
+        countTradingDays (isTradingDay market) (number first) (number (dayBefore split)) ∷ rest .0,
+        ap₂ (λ (a : CountAnswer) (r : List CountAnswer). a ∷ r) (counted first (dayBefore split) p (day-before-is-date split from to) l (omega (arith, e))) (rest .1),
+        ap₂ (λ (i j : ℕ). countTradingDays (isTradingDay market) (number first) i + j) e (rest .2),
       )

@@ -17,13 +17,13 @@ use Rattle.ranges.proofs.Lists.{map-reverse}
 use Rattle.ranges.proofs.Items.{every-trading-day}
 use Rattle.ranges.proofs.Months.{joined-days}
 use Rattle.longest_run.proofs.Markets.{bounds, markets-agree}
-use Rattle.error.specs.declared.CountResult.{CountResult}
+use Rattle.answers.specs.Expected.{noError}
 use Rattle.agreement.specs.CallsAgree.{IsRange, tradingDates, Next, Previous, Month, monthsFrom, monthsOf, limitToRange, MonthLists, SplitDates, PartCounts, CallsAgree, AllCallsAgree}
 use Rattle.calendar.proofs.CallLaws.{supported-years}
 use Rattle.agreement.proofs.Dates.{low, high, number-from, number-to, ascending, months-ordered}
 use Rattle.agreement.proofs.Traversals.{as-dates, next-answer, previous-answer}
 use Rattle.agreement.proofs.Months.{MonthsInYears, monthRange, listed, later-in-month, number-from-day, tile, all-read, joined-dates, limited-dates}
-use Rattle.agreement.proofs.Counts.{splits-of, counted, empty-part, countOfPart, part-counts}
+use Rattle.agreement.proofs.Counts.{splits-of, counted, empty-part, part-counts}
 
 module _ (market : ℕ) (first last : Date) (known : market ≤ 4) (range : IsRange first last) where
   abbrev trades : ℕ → Bool
@@ -117,7 +117,7 @@ module _ (market : ℕ) (first last : Date) (known : market ≤ 4) (range : IsRa
   on-parts : (splits : List Date) → SplitDates first splits last → PartCounts market first splits last
   on-parts splits s =
       let counts = part-counts market known first splits last (range .first-date) first-low (range .last-date) last-high s in
-      (countOfPart market known, counts .0, counts .1 ∙ on-days .parts-add-up (map number splits) (splits-of first splits last s) ∙ on-length)
+      (counts .0, counts .1, counts .2 ∙ on-days .parts-add-up (map number splits) (splits-of first splits last s) ∙ on-length)
 
   agrees : CallsAgree market first last
   agrees =
@@ -126,7 +126,7 @@ module _ (market : ℕ) (first last : Date) (known : market ≤ 4) (range : IsRa
         forward = on-forward;
         backward = on-backward;
         months = on-months;
-        count = counted market known first last (range .first-date) (range .last-date) first-low last-high ∙ ap CountResult.Ok on-length;
+        count = counted market known first last (range .first-date) (range .last-date) first-low last-high ∙ ap noError on-length;
         parts = on-parts;
         empty-part = λ split d l u. empty-part market known split d (omega (arith, first-low)) (omega (arith, last-high));
       }

@@ -18,10 +18,10 @@ use Rattle.ranges.specs.Agreement.{Traversal, NonTradingBetween, NextCall, Prev
 use Rattle.ranges.proofs.Lists.{between-length}
 use Rattle.ranges.proofs.Neighbours.{next-in-years, previous-in-years}
 use Rattle.ranges.proofs.Traversals.{traversal-map, traversal-unique}
-use Rattle.range_calls.specs.declared.TradingDay.{TradingDay}
-use Rattle.range_calls.specs.declared.TradingDayResult.{TradingDayResult}
 use Rattle.range_calls.specs.RangeCalls.{distanceOf, tradingDay, tradingDayResult, neighbourResult}
 use Rattle.range_calls.proofs.RangeLaws.{to-later, to-earlier, neighbour-of-date}
+use Rattle.answers.specs.declared.neighbours.TradingDayAnswer.{TradingDayAnswer}
+use Rattle.answers.specs.Answers.{flagOf, tradingDayAnswer}
 use Rattle.agreement.specs.CallsAgree.{NeighbourAnswer, Next, Previous}
 
 -- a day of years 1 to 9999
@@ -39,8 +39,8 @@ module _ (market : ℕ) (known : market ≤ 4) where
   -- Where the neighbour of day n is day m, the call on the date of n answers the date of m.
   answered : (neighbour : ℕ → OptionalDay) (n m earlier later : ℕ) → IsDay n → IsDay m → 1 ≤ earlier → neighbour n ≡ Day m → isTradingDay market m ≡ true
       → distanceOf n m ≡ later - earlier → NonTradingBetween (isTradingDay market) 10 earlier later
-      → NeighbourAnswer market (neighbourResult neighbour market (dateOf n .year) (dateOf n .month) (dateOf n .day)) (dateOf m) (dateOf earlier) (dateOf later)
-  unfolding tradingDayResult tradingDay
+      → NeighbourAnswer market (tradingDayAnswer (neighbourResult neighbour market (dateOf n .year) (dateOf n .month) (dateOf n .day))) (dateOf m) (dateOf earlier) (dateOf later)
+  unfolding tradingDayResult tradingDay tradingDayAnswer
   answered neighbour n m earlier later k i o q t d b =
       let up = b .ordered in
       let e = number-of-date earlier o in
@@ -48,11 +48,12 @@ module _ (market : ℕ) (known : market ≤ 4) where
       let day = tradingDay (dateOf n .year) n m in
       record {
         distance = day .distance;
-        outside = day .outside;
+        outside = flagOf (day .outside);
         no-error =
-            neighbour-of-date neighbour market (dateOf n .year) (dateOf n .month) (dateOf n .day) known (date-of-is n (k .0) (k .1))
+            ap tradingDayAnswer
+            (neighbour-of-date neighbour market (dateOf n .year) (dateOf n .month) (dateOf n .day) known (date-of-is n (k .0) (k .1))
             ∙ ap (λ (i : ℕ). tradingDayResult (dateOf n .year) i (neighbour i)) (number-of-date n (k .0))
-            ∙ ap (tradingDayResult (dateOf n .year) n) q;
+            ∙ ap (tradingDayResult (dateOf n .year) n) q);
         is-date = date-of-is m (i .0) (i .1);
         trading = ap (isTradingDay market) (number-of-date m (i .0)) ∙ t;
         between = subst₂ (NonTradingBetween (isTradingDay market) 10) (sym e) (sym f) b;
@@ -72,11 +73,8 @@ module _ (market : ℕ) (known : market ≤ 4) where
       (i, answered (previousTradingDay (isTradingDay market) firstDay) n m m n k i (i .0) (c .0) (c .1) (sym (to-earlier n m (n - m) (omega arith) refl)) (c .2))
 
 -- A call has one answer, and so the traversal lists no other dates.
-same-answer : (d e : TradingDay) → TradingDayResult.Ok d ≡ TradingDayResult.Ok e → d .date ≡ e .date
-same-answer d e q = let p : d ≡ e = cc in ap (λ (x : TradingDay). x .date) p
-
-one-date : (market : ℕ) (r : TradingDayResult) (s t earlier later earlier′ later′ : Date) → NeighbourAnswer market r s earlier later → NeighbourAnswer market r t earlier′ later′ → s ≡ t
-one-date market r s t earlier later earlier′ later′ c d = same-answer _ _ (sym (c .no-error) ∙ d .no-error)
+one-date : (market : ℕ) (r : TradingDayAnswer) (s t earlier later earlier′ later′ : Date) → NeighbourAnswer market r s earlier later → NeighbourAnswer market r t earlier′ later′ → s ≡ t
+one-date market r s t earlier later earlier′ later′ c d = ap (λ (x : TradingDayAnswer). x .date) (sym (c .no-error) ∙ d .no-error)
 
 pub forward-unique : (market : ℕ) (inside : Date → Bool) (n : Date) (l r : List Date) → Traversal (Next market) inside n l → Traversal (Next market) inside n r → l ≡ r
 forward-unique market inside = traversal-unique (Next market) inside (λ n m k c d. one-date market _ m k _ _ _ _ c d)

@@ -1,5 +1,5 @@
 -- One claim about the next, previous, month and count calls together: docs/SCOPE.md [agreement]. Dates are year, month and day, and
--- the calls are the definitions that the contracts of the exported functions cite. Assumes nothing.
+-- the answers are the structs that the exported calls return, by the definitions that their contracts cite. Assumes nothing.
 use Prim.Native.Nat.{ℕ, zero, suc, _+_, _-_, _*_, _≤_, _<_}
 use mathlib.Core.Path.{_≡_}
 use mathlib.Core.Bool.{Bool, true, _&&_}
@@ -13,11 +13,12 @@ use Rattle.utils.specs.Weekday.{nextMonth, nextYear}
 use Rattle.markets.specs.Markets.{isTradingDay}
 use Rattle.ranges.specs.Ranges.{daysBetween, filter, Every, tradingDays, sumOf, joined}
 use Rattle.ranges.specs.Agreement.{Traversal, NonTradingBetween}
-use Rattle.error.specs.declared.CountResult.{CountResult}
-use Rattle.error.specs.declared.CalendarError.the-variants.{BufferTooSmall}
-use Rattle.range_calls.specs.declared.TradingDayResult.{TradingDayResult}
 use Rattle.calendar.specs.Calls.{isSupported}
 use Rattle.range_calls.specs.RangeCalls.{nextTradingDayResult, previousTradingDayResult, tradingDaysInMonthResult, tradingDaysInMonthBuffer, countTradingDaysResult}
+use Rattle.answers.specs.declared.neighbours.TradingDayAnswer.{TradingDayAnswer}
+use Rattle.answers.specs.declared.counts.CountAnswer.{CountAnswer}
+use Rattle.answers.specs.Answers.{tradingDayAnswer, countAnswer}
+use Rattle.answers.specs.Expected.{noError, tooSmall}
 
 -- ---- the range
 
@@ -40,19 +41,19 @@ Ascending (t ∷ l) = Every (λ u. number t < number u) l × Ascending l
 
 -- ---- traversals
 
-abbrev pub nextCall : ℕ → Date → TradingDayResult
-nextCall market t = nextTradingDayResult market (t .year) (t .month) (t .day)
+abbrev pub nextCall : ℕ → Date → TradingDayAnswer
+nextCall market t = tradingDayAnswer (nextTradingDayResult market (t .year) (t .month) (t .day))
 
-abbrev pub previousCall : ℕ → Date → TradingDayResult
-previousCall market t = previousTradingDayResult market (t .year) (t .month) (t .day)
+abbrev pub previousCall : ℕ → Date → TradingDayAnswer
+previousCall market t = tradingDayAnswer (previousTradingDayResult market (t .year) (t .month) (t .day))
 
 -- [agreement-call], [agreement-no-error]: a call ("step") gives no error and answers a date that trades. `earlier` and `later` are the
 -- date given and the answer, the earlier one first. At most ten days are strictly between them, and none of these trades; the
 -- distance is one more than their number, and it is the number of days from the one to the other.
-pub record NeighbourAnswer (market : ℕ) (result : TradingDayResult) (answer earlier later : Date) : Type 0 where
+pub record NeighbourAnswer (market : ℕ) (result : TradingDayAnswer) (answer earlier later : Date) : Type 0 where
   pub distance : ℕ
-  pub outside : Bool
-  pub no-error : result ≡ TradingDayResult.Ok (record { date = answer; distance = distance; outside = outside })
+  pub outside : ℕ
+  pub no-error : result ≡ record { error = 0; date = answer; distance = distance; outside = outside }
   pub is-date : isDateOf answer ≡ true
   pub trading : isTradingDay market (number answer) ≡ true
   pub between : NonTradingBetween (isTradingDay market) 10 (number earlier) (number later)
@@ -81,13 +82,13 @@ abbrev pub monthsOf : Date → Date → List Month
 monthsOf first last =
     monthsFrom (first .year) (first .month) (suc (12 * last .year + last .month) - (12 * first .year + first .month))
 
-abbrev pub monthCall : ℕ → Month → List ℕ → CountResult
-monthCall market m buffer = tradingDaysInMonthResult market (m .year) (m .month) buffer
+abbrev pub monthCall : ℕ → Month → List ℕ → CountAnswer
+monthCall market m buffer = countAnswer (tradingDaysInMonthResult market (m .year) (m .month) buffer)
 
 -- The call on the buffer gives no error; the first bytes of the buffer after it, as many as it returned, are these.
 abbrev pub Writes : ℕ → Month → List ℕ → List ℕ → Type 0
 Writes market m buffer bytes =
-    (monthCall market m buffer ≡ CountResult.Ok (length bytes))
+    (monthCall market m buffer ≡ noError (length bytes))
     × (take (length bytes) (tradingDaysInMonthBuffer market (m .year) (m .month) buffer) ≡ bytes)
 
 -- The bytes come so from the month's own buffer; or the call gives error 9 there and names their number, and they come so from every
@@ -95,7 +96,7 @@ Writes market m buffer bytes =
 abbrev pub Reads : ℕ → Month → List ℕ → List ℕ → Type 0
 Reads market m buffer bytes =
     Writes market m buffer bytes
-    ⊎ ((monthCall market m buffer ≡ CountResult.Err (BufferTooSmall (length bytes))) × ((room : List ℕ) → length bytes ≤ length room → Writes market m room bytes))
+    ⊎ ((monthCall market m buffer ≡ tooSmall (length bytes)) × ((room : List ℕ) → length bytes ≤ length room → Writes market m room bytes))
 
 -- the bytes as days of their month
 abbrev pub datesOf : (Month → List ℕ) → Month → List Date
@@ -113,9 +114,9 @@ MonthLists market first last buffer =
 
 -- ---- counts
 
-abbrev pub countCall : ℕ → Date → Date → CountResult
+abbrev pub countCall : ℕ → Date → Date → CountAnswer
 countCall market start end =
-    countTradingDaysResult market (start .year) (start .month) (start .day) (end .year) (end .month) (end .day)
+    countAnswer (countTradingDaysResult market (start .year) (start .month) (start .day) (end .year) (end .month) (end .day))
 
 pub record Part : Type 0 where
   pub start : Date
@@ -131,11 +132,12 @@ abbrev pub SplitDates : Date → List Date → Date → Type 0
 SplitDates first [] last = number first ≤ suc (number last)
 SplitDates first (split ∷ splits) last = (isDateOf split ≡ true) × (number first ≤ number split) × SplitDates split splits last
 
--- [agreement-no-error]: the count calls on the parts answer counts, without an error; these add up to the length of the list
+-- [agreement-no-error]: the count calls on the parts answer these numbers, in order and without an error; they add up to the length of
+-- the list
 abbrev pub PartCounts : ℕ → Date → List Date → Date → Type 0
 PartCounts market first splits last =
-    (counts : Part → ℕ) × Every (λ p. countCall market (p .start) (p .end) ≡ CountResult.Ok (counts p)) (partsOf first splits last)
-    × (sumOf counts (partsOf first splits last) ≡ length (tradingDates market first last))
+    (counts : List ℕ) × (map (λ p. countCall market (p .start) (p .end)) (partsOf first splits last) ≡ map noError counts)
+    × (sumOf (λ n. n) counts ≡ length (tradingDates market first last))
 
 -- ---- the claim
 
@@ -149,11 +151,11 @@ pub record CallsAgree (market : ℕ) (first last : Date) : Type 0 where
   -- [agreement-months]: whatever the months' buffers are
   pub months : (buffer : Month → List ℕ) → MonthLists market first last buffer
   -- [agreement-count]
-  pub count : countCall market first last ≡ CountResult.Ok (length (tradingDates market first last))
+  pub count : countCall market first last ≡ noError (length (tradingDates market first last))
   -- [agreement-parts]: also where there is no split date; and an empty part counts 0, on the range's first day and after its last too
   pub parts : (splits : List Date) → SplitDates first splits last → PartCounts market first splits last
   pub empty-part : (split : Date) → isDateOf split ≡ true → number first ≤ number split → number split ≤ suc (number last)
-      → countCall market split (dayBefore split) ≡ CountResult.Ok 0
+      → countCall market split (dayBefore split) ≡ noError 0
 
 -- [agreement], for codes 0 to 4 and every range
 abbrev pub AllCallsAgree : Type 0

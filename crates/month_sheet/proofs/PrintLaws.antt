@@ -8,10 +8,8 @@ use native.Mathlib.Omega.{arith}
 use Rattle.buffers.specs.Buffers.{overwrite}
 use Rattle.decimal.proofs.DecimalLaws.{length-at-most}
 use Rattle.error.specs.declared.CountResult.{CountResult}
-use Rattle.error.specs.declared.CalendarError.{CalendarError}
-use Rattle.error.specs.declared.CalendarError.the-variants.{MalformedText, UnknownMarket, InvalidDate, TimeOutOfRange, DateOutOfRange}
-use Rattle.error.specs.declared.CalendarError.the-variants.{InvalidDateCalculation, NoTradingDayFound, BufferTooSmall, InvalidSession, InvalidTime}
-use Rattle.error.specs.Errors.{errorFields, errorNumber}
+use Rattle.error.specs.Errors.{errorNumber}
+use Rattle.error.proofs.ErrorLaws.{error-number}
 use Rattle.range_calls.specs.RangeCalls.{writtenResult, finalBuffer}
 use Rattle.range_calls.proofs.MonthLaws.{written-ok}
 use Rattle.answers.specs.declared.counts.CountAnswer.{CountAnswer}
@@ -31,20 +29,6 @@ sheet-fits (Request.Month market year month) bytes e =
     let a = sheet-asked market year month bytes e in
     omega (arith, ap length (a .1), sheet-length market year month (a .0 .known) (a .0 .supported) (a .0 .is-month))
 sheet-fits Request.Malformed bytes e = absurd (let z : _≡_ {A = ℕ} 0 1 = cc in omega arith)
-
--- the number of an error, which is never that of none
-error-number : (e : CalendarError) → (1 ≤ errorNumber e) × (errorNumber e ≤ 10)
-unfolding errorFields
-error-number MalformedText = omega arith
-error-number UnknownMarket = omega arith
-error-number InvalidDate = omega arith
-error-number TimeOutOfRange = omega arith
-error-number (DateOutOfRange t) = omega arith
-error-number InvalidDateCalculation = omega arith
-error-number NoTradingDayFound = omega arith
-error-number (BufferTooSmall needed) = omega arith
-error-number InvalidSession = omega arith
-error-number InvalidTime = omega arith
 
 refused-length : (n : ℕ) → n ≤ 10 → length (refusedLine n) ≤ 136
 refused-length n h = simp length-append (omega (arith, length-at-most 1 n (omega arith)))

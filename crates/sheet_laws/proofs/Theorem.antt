@@ -22,17 +22,20 @@ use Rattle.calendar.specs.Calls.{isSupported}
 use Rattle.range_calls.specs.RangeCalls.{writtenResult, finalBuffer, tradingDaysInMonthResult, tradingDaysInMonthBuffer}
 use Rattle.calendar.proofs.CallLaws.{supported-years}
 use Rattle.range_calls.proofs.MonthLaws.{NoMonthError, no-month-error, written-ok, month-of-years}
+use Rattle.answers.specs.Answers.{countAnswer}
+use Rattle.answers.specs.Expected.{noError}
+use Rattle.answers.proofs.AnswerLaws.{no-error-is, was-no-error}
 use Rattle.decimal.specs.Decimal.{decimal, valueOf}
 use Rattle.decimal.proofs.DecimalLaws.{length-positive, length-at-most, decimal-digits, decimal-value, no-leading-zero}
 use Rattle.request.specs.declared.Request.{Request}
 use Rattle.request.specs.Text.{ascii}
 use Rattle.request.specs.Request.{requestText, readRequest}
 use Rattle.sheet_lines.specs.Sheet.{commaSeparated, sheetLines, monthSheet}
-use Rattle.sheet.specs.Call.{SheetResult, sheetOfMonth, sheetOfRequest, sheetWritten, sheetBuffer, monthSheetResult}
+use Rattle.sheet.specs.Call.{SheetResult, sheetOfMonth, sheetOfRequest, sheetWritten, sheetBuffer}
 use Rattle.request.proofs.Form.{reads-the-form}
 use Rattle.sheet.proofs.CallLaws.{sheet-by-check, sheet-asked}
 use Rattle.sheet_lines.proofs.SheetLength.{sheet-length}
-use Rattle.sheet_laws.specs.SheetLaws.{splitLines, firstLines, splitList, IsNumber, SheetLaws, AllSheetLaws}
+use Rattle.sheet_laws.specs.SheetLaws.{splitLines, firstLines, splitList, IsNumber, sheetCall, SheetLaws, AllSheetLaws}
 use Rattle.sheet_laws.proofs.Splitting.{Above, decimal-above, split-text, first-lines, numbers-above, split-list}
 
 -- ---- numbers
@@ -166,8 +169,8 @@ module _ (market year month : ℕ) (k : NoMonthError market year month) where
         read-back = read-back ∙ sym e;
         count-is = count ∙ sym (ap length list ∙ length-map days decimal);
         days-are = same;
-        month-call = λ buffer i h. let w = month-written buffer i h in (w .0 ∙ sym count, w .1 ∙ sym same);
-        no-error = λ buffer h. month-answer buffer ∙ written-ok days buffer (omega arith) ∙ ap CountResult.Ok (sym count);
+        month-call = λ buffer i h. let w = month-written buffer i (was-no-error _ i h) in (w .0 ∙ sym count, w .1 ∙ sym same);
+        no-error = λ buffer h. ap countAnswer (month-answer buffer ∙ written-ok days buffer (omega arith)) ∙ no-error-is (length days) ∙ ap noError (sym count);
       }
 
 -- ---- the call
@@ -187,14 +190,15 @@ years-supported year from to = simp (le-leb 2020 year from, le-leb year 2030 to)
 
 -- The text asks for a month without an error, and every sheet has room.
 answered : (text buffer : List ℕ) (market year month : ℕ) → readRequest text ≡ Request.Month market year month → NoMonthError market year month
-    → 136 ≤ length buffer → (n : ℕ) × (monthSheetResult text buffer ≡ CountResult.Ok n)
+    → 136 ≤ length buffer → (n : ℕ) × (sheetCall text buffer ≡ noError n)
 answered text buffer market year month e k room =
     let bytes = monthSheet market year month in
     let short = sheet-length market year month (k .known) (k .supported) (k .is-month) in (
       length bytes,
-      ap (λ (r : Request). sheetWritten (sheetOfRequest r) buffer) e
-          ∙ ap (λ (r : SheetResult). sheetWritten r buffer) (sheet-by-check market year month _ (no-month-error market year month k))
-          ∙ written-ok bytes buffer (omega arith),
+      ap (λ (r : Request). countAnswer (sheetWritten (sheetOfRequest r) buffer)) e
+          ∙ ap (λ (r : SheetResult). countAnswer (sheetWritten r buffer)) (sheet-by-check market year month _ (no-month-error market year month k))
+          ∙ ap countAnswer (written-ok bytes buffer (omega arith))
+          ∙ no-error-is (length bytes),
     )
 
 -- [sheet-output], [sheet-numbers], [sheet-return]
@@ -203,5 +207,5 @@ sheet-laws = record {
   answered = λ text buffer market year month e k from to l u room.
       answered text buffer market year month e
       (record { known = k; supported = years-supported year from to; is-month = simp (le-leb 1 month l, le-leb month 12 u) }) room;
-  written = λ text buffer n h. by-request text buffer n (readRequest text) refl h;
+  written = λ text buffer n h. by-request text buffer n (readRequest text) refl (was-no-error _ n h);
 }

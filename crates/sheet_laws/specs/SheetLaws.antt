@@ -1,5 +1,5 @@
--- One claim about the bytes that a month sheet's call writes: docs/SCOPE.md [sheet-output], [sheet-numbers], [sheet-return]. The calls are
--- the definitions that the contracts of the exported functions cite. Assumes nothing.
+-- One claim about the bytes that a month sheet's call writes: docs/SCOPE.md [sheet-output], [sheet-numbers], [sheet-return]. The answers
+-- are the structs that the exported calls return, by the definitions that their contracts cite. Assumes nothing.
 use Prim.Native.Nat.{ℕ, zero, suc, _≤_, _<_}
 use mathlib.Core.Path.{_≡_}
 use mathlib.Core.Bool.{cond}
@@ -8,8 +8,10 @@ use lib.Dec.{eqb}
 use lib.ListN.{length, take, getD}
 use Rattle.ranges.specs.Ranges.{Every}
 use Rattle.trading_days.specs.Month.{monthList}
-use Rattle.error.specs.declared.CountResult.{CountResult}
 use Rattle.range_calls.specs.RangeCalls.{tradingDaysInMonthResult, tradingDaysInMonthBuffer}
+use Rattle.answers.specs.declared.counts.CountAnswer.{CountAnswer}
+use Rattle.answers.specs.Answers.{countAnswer}
+use Rattle.answers.specs.Expected.{noError}
 use Rattle.decimal.specs.Decimal.{valueOf}
 use Rattle.request.specs.declared.Request.{Request}
 use Rattle.request.specs.Text.{ascii}
@@ -50,6 +52,12 @@ pub record IsNumber (digits : List ℕ) : Type 0 where
 
 -- ---- the claim
 
+abbrev pub monthCall : ℕ → ℕ → ℕ → List ℕ → CountAnswer
+monthCall market year month buffer = countAnswer (tradingDaysInMonthResult market year month buffer)
+
+abbrev pub sheetCall : List ℕ → List ℕ → CountAnswer
+sheetCall text buffer = countAnswer (monthSheetResult text buffer)
+
 -- The call on the text answered n, and these are the first n bytes of the buffer after it.
 pub record SheetLaws (text : List ℕ) (n : ℕ) (written : List ℕ) : Type 0 where
   -- the text asks for a month
@@ -87,15 +95,14 @@ pub record SheetLaws (text : List ℕ) (n : ℕ) (written : List ℕ) : Type 0 w
   -- `days` are the month list's
   pub days-are : map valueOf (splitList days) ≡ monthList market year month
   -- The month call writes the same days and answers the same count; and it gives no error where they fit.
-  pub month-call : (buffer : List ℕ) (k : ℕ) → tradingDaysInMonthResult market year month buffer ≡ CountResult.Ok k
+  pub month-call : (buffer : List ℕ) (k : ℕ) → monthCall market year month buffer ≡ noError k
       → (k ≡ valueOf count-digits) × (take k (tradingDaysInMonthBuffer market year month buffer) ≡ map valueOf (splitList days))
-  pub no-error : (buffer : List ℕ) → valueOf count-digits ≤ length buffer
-      → tradingDaysInMonthResult market year month buffer ≡ CountResult.Ok (valueOf count-digits)
+  pub no-error : (buffer : List ℕ) → valueOf count-digits ≤ length buffer → monthCall market year month buffer ≡ noError (valueOf count-digits)
 
 -- for every text and buffer
 pub record AllSheetLaws : Type 0 where
   -- Where the text asks for a month of 2020 to 2030 of one of the markets, and there is room, the call gives no error.
   pub answered : (text buffer : List ℕ) (market year month : ℕ) → readRequest text ≡ Request.Month market year month → market ≤ 4 → 2020 ≤ year → year ≤ 2030
-      → 1 ≤ month → month ≤ 12 → 136 ≤ length buffer → (n : ℕ) × (monthSheetResult text buffer ≡ CountResult.Ok n)
+      → 1 ≤ month → month ≤ 12 → 136 ≤ length buffer → (n : ℕ) × (sheetCall text buffer ≡ noError n)
   -- Where it gives none, the bytes written are the sheet of such a month.
-  pub written : (text buffer : List ℕ) (n : ℕ) → monthSheetResult text buffer ≡ CountResult.Ok n → SheetLaws text n (take n (monthSheetBuffer text buffer))
+  pub written : (text buffer : List ℕ) (n : ℕ) → sheetCall text buffer ≡ noError n → SheetLaws text n (take n (monthSheetBuffer text buffer))

@@ -1,0 +1,19 @@
+-- What an answer without an error was made from.
+-- Assumes nothing.
+use Prim.Native.Nat.{ℕ}
+use mathlib.Core.Path.{_≡_, refl, ap}
+use native.Mathlib.Omega.{arith}
+use Rattle.error.specs.declared.CountResult.{CountResult}
+use Rattle.error.proofs.ErrorLaws.{error-number}
+use Rattle.answers.specs.declared.counts.CountAnswer.{CountAnswer}
+use Rattle.answers.specs.Answers.{countAnswer}
+use Rattle.answers.specs.Expected.{noError}
+
+pub no-error-is : (n : ℕ) → countAnswer (CountResult.Ok n) ≡ noError n
+unfolding countAnswer
+no-error-is n = refl
+
+pub was-no-error : (r : CountResult) (n : ℕ) → countAnswer r ≡ noError n → r ≡ CountResult.Ok n
+unfolding countAnswer
+was-no-error (CountResult.Ok k) n e = ap CountResult.Ok (ap (λ (a : CountAnswer). a .count) e)
+was-no-error (CountResult.Err d) n e = absurd (omega (arith, ap (λ (a : CountAnswer). a .error) e, error-number d))
