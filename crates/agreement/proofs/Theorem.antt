@@ -12,7 +12,8 @@ use Rattle.gregorian.specs.Calendar.{monthLength, dayNumber, firstDay, lastDay,
 use Rattle.gregorian.proofs.Laws.{is-date, date-of-number}
 use Rattle.markets.specs.Markets.{isTradingDay}
 use Rattle.ranges.specs.Ranges.{Every, tradingDays, countTradingDays, joined}
-use Rattle.ranges.specs.Agreement.{Agreement, Traversal, NextCall, PreviousCall, Tile, listOf}
+use Rattle.ranges.specs.Steps.{NextCall, PreviousCall}
+use Rattle.ranges.specs.Agreement.{Traversal, Agreement, Tile, listOf}
 use Rattle.ranges.proofs.Lists.{map-reverse}
 use Rattle.ranges.proofs.Items.{every-trading-day}
 use Rattle.ranges.proofs.Months.{joined-days}
@@ -21,7 +22,7 @@ use Rattle.answers.specs.Expected.{noError}
 use Rattle.agreement.specs.CallsAgree.{IsRange, tradingDates, Next, Previous, Month, monthsFrom, monthsOf, limitToRange, MonthLists, SplitDates, PartCounts, CallsAgree, AllCallsAgree}
 use Rattle.calendar.proofs.CallLaws.{supported-years}
 use Rattle.agreement.proofs.Dates.{low, high, number-from, number-to, ascending, months-ordered}
-use Rattle.agreement.proofs.Traversals.{as-dates, next-answer, previous-answer}
+use Rattle.agreement.proofs.Traversals.{as-dates, outside-as-dates, next-answer, previous-answer}
 use Rattle.agreement.proofs.Months.{MonthsInYears, monthRange, listed, later-in-month, number-from-day, tile, all-read, joined-dates, limited-dates}
 use Rattle.agreement.proofs.Counts.{splits-of, counted, empty-part, part-counts}
 
@@ -51,13 +52,18 @@ module _ (market : ℕ) (first last : Date) (known : market ≤ 4) (range : IsRa
   on-days = markets-agree market a b known first-low (range .ordered) last-high
 
   on-forward : Traversal (Next market) (λ t. leb (number t) b) (dayBefore first) (tradingDates market first last)
-  on-forward = as-dates (NextCall trades 10 lastDay) (Next market) (next-answer market known) (λ m. leb m b) (a - 1) (tradingDays trades a b) (omega (arith, bounds, first-low), omega (arith, bounds, range .ordered, last-high)) (on-days .forward)
+  on-forward =
+      as-dates (NextCall trades 10 lastDay) (Next market) (λ m. leb m b) (next-answer market known 10) _ _
+      (outside-as-dates (NextCall trades 10 lastDay) (Next market) (λ m. leb m b) (next-answer market known 10))
+      (a - 1) (tradingDays trades a b) (omega (arith, bounds, first-low), omega (arith, bounds, range .ordered, last-high)) (on-days .forward)
 
   on-backward : Traversal (Previous market) (λ t. leb a (number t)) (dayAfter last) (reverse (tradingDates market first last))
   unfolding dateOf
   on-backward =
       subst₂ (Traversal (Previous market) (λ t. leb a (number t))) (ap dayAfter (date-of-number last (last-is .exists))) (map-reverse dateOf (tradingDays trades a b))
-      (as-dates (PreviousCall trades 10 firstDay) (Previous market) (previous-answer market known) (λ m. leb a m) (suc b) (reverse (tradingDays trades a b)) (omega arith, omega (arith, bounds, last-high)) (on-days .backward))
+      (as-dates (PreviousCall trades 10 firstDay) (Previous market) (λ m. leb a m) (previous-answer market known 10) _ _
+      (outside-as-dates (PreviousCall trades 10 firstDay) (Previous market) (λ m. leb a m) (previous-answer market known 10))
+      (suc b) (reverse (tradingDays trades a b)) (omega arith, omega (arith, bounds, last-high)) (on-days .backward))
 
   -- ---- the months
 

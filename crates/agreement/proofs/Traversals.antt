@@ -14,32 +14,38 @@ use Rattle.utils.specs.declared.OptionalDay.the-variants.{Day}
 use Rattle.utils.specs.Weekday.{InYears}
 use Rattle.markets.specs.Markets.{isTradingDay}
 use Rattle.ranges.specs.Ranges.{daysBetween, nextTradingDay, previousTradingDay}
-use Rattle.ranges.specs.Agreement.{Traversal, NonTradingBetween, NextCall, PreviousCall}
+use Rattle.ranges.specs.Steps.{NonTradingBetween, NextCall, PreviousCall}
+use Rattle.ranges.specs.Agreement.{TraversalTo, EndsOutside, Traversal}
 use Rattle.ranges.proofs.Lists.{between-length}
-use Rattle.ranges.proofs.Neighbours.{next-in-years, previous-in-years}
-use Rattle.ranges.proofs.Traversals.{traversal-map, traversal-unique}
+use Rattle.ranges.proofs.StepLaws.{next-in-years, previous-in-years}
+use Rattle.ranges.proofs.Traversals.{traversal-map, outside-map, traversal-unique, outside-ends}
 use Rattle.range_calls.specs.RangeCalls.{distanceOf, tradingDay, tradingDayResult, neighbourResult}
 use Rattle.range_calls.proofs.RangeLaws.{to-later, to-earlier, neighbour-of-date}
 use Rattle.answers.specs.declared.neighbours.TradingDayAnswer.{TradingDayAnswer}
 use Rattle.answers.specs.Answers.{flagOf, tradingDayAnswer}
-use Rattle.agreement.specs.CallsAgree.{NeighbourAnswer, Next, Previous}
+use Rattle.agreement.specs.CallsAgree.{nextCall, previousCall, NeighbourAnswer, Next, Previous}
 
 -- a day of years 1 to 9999
 abbrev pub IsDay : ℕ → Type 0
 IsDay n = InYears (Day n)
 
--- A traversal of day numbers is one of their dates.
-pub as-dates : (C : ℕ → ℕ → Type 0) (D : Date → Date → Type 0) → ((n m : ℕ) → IsDay n → C n m → IsDay m × D (dateOf n) (dateOf m))
-    → (inside : ℕ → Bool) (n : ℕ) (l : List ℕ) → IsDay n → Traversal C inside n l → Traversal D (λ t. inside (number t)) (dateOf n) (map dateOf l)
-as-dates C D h inside =
-    traversal-map dateOf C D inside (λ t. inside (number t)) IsDay
-    (λ n m k c. let g = h n m k c in (g .1, ap inside (number-of-date m (g .0 .0)), λ e. g .0))
+-- A traversal of day numbers is one of their dates, and likewise how it ends.
+module _ (C : ℕ → ℕ → Type 0) (D : Date → Date → Type 0) (inside : ℕ → Bool) (h : (n m : ℕ) → IsDay n → C n m → IsDay m × D (dateOf n) (dateOf m)) where
+  dated : (n m : ℕ) → IsDay n → C n m → D (dateOf n) (dateOf m) × (inside (number (dateOf m)) ≡ inside m) × (inside m ≡ true → IsDay m)
+  dated n m k c = let g = h n m k c in (g .1, ap inside (number-of-date m (g .0 .0)), λ e. g .0)
 
-module _ (market : ℕ) (known : market ≤ 4) where
+  pub as-dates : (E : ℕ → Type 0) (F : Date → Type 0) → ((n : ℕ) → IsDay n → E n → F (dateOf n))
+      → (n : ℕ) (l : List ℕ) → IsDay n → TraversalTo C inside E n l → TraversalTo D (λ t. inside (number t)) F (dateOf n) (map dateOf l)
+  as-dates = traversal-map dateOf C D inside (λ t. inside (number t)) IsDay dated
+
+  pub outside-as-dates : (n : ℕ) → IsDay n → EndsOutside C inside n → EndsOutside D (λ t. inside (number t)) (dateOf n)
+  outside-as-dates = outside-map dateOf C D inside (λ t. inside (number t)) IsDay dated
+
+module _ (market : ℕ) (known : market ≤ 4) (most : ℕ) where
   -- Where the neighbour of day n is day m, the call on the date of n answers the date of m.
   answered : (neighbour : ℕ → OptionalDay) (n m earlier later : ℕ) → IsDay n → IsDay m → 1 ≤ earlier → neighbour n ≡ Day m → isTradingDay market m ≡ true
-      → distanceOf n m ≡ later - earlier → NonTradingBetween (isTradingDay market) 10 earlier later
-      → NeighbourAnswer market (tradingDayAnswer (neighbourResult neighbour market (dateOf n .year) (dateOf n .month) (dateOf n .day))) (dateOf m) (dateOf earlier) (dateOf later)
+      → distanceOf n m ≡ later - earlier → NonTradingBetween (isTradingDay market) most earlier later
+      → NeighbourAnswer market most (tradingDayAnswer (neighbourResult neighbour market (dateOf n .year) (dateOf n .month) (dateOf n .day))) (dateOf m) (dateOf earlier) (dateOf later)
   unfolding tradingDayResult tradingDay tradingDayAnswer
   answered neighbour n m earlier later k i o q t d b =
       let up = b .ordered in
@@ -56,28 +62,37 @@ module _ (market : ℕ) (known : market ≤ 4) where
             ∙ ap (tradingDayResult (dateOf n .year) n) q);
         is-date = date-of-is m (i .0) (i .1);
         trading = ap (isTradingDay market) (number-of-date m (i .0)) ∙ t;
-        between = subst₂ (NonTradingBetween (isTradingDay market) 10) (sym e) (sym f) b;
+        between = subst₂ (NonTradingBetween (isTradingDay market) most) (sym e) (sym f) b;
         one-more = d ∙ sym (between-length earlier later up) ∙ sym (ap₂ (λ (x y : ℕ). suc (length (daysBetween x y))) e f);
         difference = omega (arith, d, e, f);
       }
 
-  pub next-answer : (n m : ℕ) → IsDay n → NextCall (isTradingDay market) 10 lastDay n m → IsDay m × Next market (dateOf n) (dateOf m)
+  pub next-answer : (n m : ℕ) → IsDay n → NextCall (isTradingDay market) most lastDay n m
+      → IsDay m × NeighbourAnswer market most (nextCall market (dateOf n)) (dateOf m) (dateOf n) (dateOf m)
   next-answer n m k c =
       let i = subst InYears (c .0) (next-in-years (isTradingDay market) n) in
       (i, answered (nextTradingDay (isTradingDay market) lastDay) n m n m k i (k .0) (c .0) (c .1) (sym (to-later n m (m - n) (c .2 .ordered) refl)) (c .2))
 
-  pub previous-answer : (n m : ℕ) → IsDay n → PreviousCall (isTradingDay market) 10 firstDay n m → IsDay m × Previous market (dateOf n) (dateOf m)
+  pub previous-answer : (n m : ℕ) → IsDay n → PreviousCall (isTradingDay market) most firstDay n m
+      → IsDay m × NeighbourAnswer market most (previousCall market (dateOf n)) (dateOf m) (dateOf m) (dateOf n)
   previous-answer n m k c =
-      let i = subst InYears (c .0) (previous-in-years (isTradingDay market) n (k .0) (k .1)) in
+      let i = subst InYears (c .0) (previous-in-years (isTradingDay market) n (k .1)) in
       let down = c .2 .ordered in
       (i, answered (previousTradingDay (isTradingDay market) firstDay) n m m n k i (i .0) (c .0) (c .1) (sym (to-earlier n m (n - m) (omega arith) refl)) (c .2))
 
 -- A call has one answer, and so the traversal lists no other dates.
-one-date : (market : ℕ) (r : TradingDayAnswer) (s t earlier later earlier′ later′ : Date) → NeighbourAnswer market r s earlier later → NeighbourAnswer market r t earlier′ later′ → s ≡ t
-one-date market r s t earlier later earlier′ later′ c d = ap (λ (x : TradingDayAnswer). x .date) (sym (c .no-error) ∙ d .no-error)
+one-date : (market most : ℕ) (r : TradingDayAnswer) (s t earlier later earlier′ later′ : Date) → NeighbourAnswer market most r s earlier later → NeighbourAnswer market most r t earlier′ later′ → s ≡ t
+one-date market most r s t earlier later earlier′ later′ c d = ap (λ (x : TradingDayAnswer). x .date) (sym (c .no-error) ∙ d .no-error)
 
-pub forward-unique : (market : ℕ) (inside : Date → Bool) (n : Date) (l r : List Date) → Traversal (Next market) inside n l → Traversal (Next market) inside n r → l ≡ r
-forward-unique market inside = traversal-unique (Next market) inside (λ n m k c d. one-date market _ m k _ _ _ _ c d)
+module _ (market : ℕ) (inside : Date → Bool) where
+  one-next : (n m k : Date) → Next market n m → Next market n k → m ≡ k
+  one-next n m k c d = one-date market 10 _ m k _ _ _ _ c d
 
-pub backward-unique : (market : ℕ) (inside : Date → Bool) (n : Date) (l r : List Date) → Traversal (Previous market) inside n l → Traversal (Previous market) inside n r → l ≡ r
-backward-unique market inside = traversal-unique (Previous market) inside (λ n m k c d. one-date market _ m k _ _ _ _ c d)
+  one-previous : (n m k : Date) → Previous market n m → Previous market n k → m ≡ k
+  one-previous n m k c d = one-date market 10 _ m k _ _ _ _ c d
+
+  pub forward-unique : (n : Date) (l r : List Date) → Traversal (Next market) inside n l → Traversal (Next market) inside n r → l ≡ r
+  forward-unique = traversal-unique (Next market) inside one-next _ (outside-ends (Next market) inside one-next)
+
+  pub backward-unique : (n : Date) (l r : List Date) → Traversal (Previous market) inside n l → Traversal (Previous market) inside n r → l ≡ r
+  backward-unique = traversal-unique (Previous market) inside one-previous _ (outside-ends (Previous market) inside one-previous)

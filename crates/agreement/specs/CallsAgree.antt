@@ -2,7 +2,7 @@
 -- the answers are the structs that the exported calls return, by the definitions that their contracts cite. Assumes nothing.
 use Prim.Native.Nat.{ℕ, zero, suc, _+_, _-_, _*_, _≤_, _<_}
 use mathlib.Core.Path.{_≡_}
-use mathlib.Core.Bool.{Bool, true, _&&_}
+use mathlib.Core.Bool.{true, _&&_}
 use mathlib.Core.Logic.{_⊎_}
 use mathlib.Core.List.{List, [], _∷_, map, reverse}
 use lib.Dec.{leb}
@@ -12,7 +12,8 @@ use Rattle.gregorian.specs.Calendar.{isDateOf, date, number, dayAfter, dateOf, 
 use Rattle.utils.specs.Weekday.{nextMonth, nextYear}
 use Rattle.markets.specs.Markets.{isTradingDay}
 use Rattle.ranges.specs.Ranges.{daysBetween, filter, Every, tradingDays, sumOf, joined}
-use Rattle.ranges.specs.Agreement.{Traversal, NonTradingBetween}
+use Rattle.ranges.specs.Steps.{NonTradingBetween}
+use Rattle.ranges.specs.Agreement.{Traversal}
 use Rattle.calendar.specs.Calls.{isSupported}
 use Rattle.range_calls.specs.RangeCalls.{nextTradingDayResult, previousTradingDayResult, tradingDaysInMonthResult, tradingDaysInMonthBuffer, countTradingDaysResult}
 use Rattle.answers.specs.declared.neighbours.TradingDayAnswer.{TradingDayAnswer}
@@ -48,29 +49,34 @@ abbrev pub previousCall : ℕ → Date → TradingDayAnswer
 previousCall market t = tradingDayAnswer (previousTradingDayResult market (t .year) (t .month) (t .day))
 
 -- [agreement-call], [agreement-no-error]: a call ("step") gives no error and answers a date that trades. `earlier` and `later` are the
--- date given and the answer, the earlier one first. At most ten days are strictly between them, and none of these trades; the
+-- date given and the answer, the earlier one first. At most so many days are strictly between them, and none of these trades; the
 -- distance is one more than their number, and it is the number of days from the one to the other.
-pub record NeighbourAnswer (market : ℕ) (result : TradingDayAnswer) (answer earlier later : Date) : Type 0 where
+pub record NeighbourAnswer (market most : ℕ) (result : TradingDayAnswer) (answer earlier later : Date) : Type 0 where
   pub distance : ℕ
   pub outside : ℕ
   pub no-error : result ≡ record { error = 0; date = answer; distance = distance; outside = outside }
   pub is-date : isDateOf answer ≡ true
   pub trading : isTradingDay market (number answer) ≡ true
-  pub between : NonTradingBetween (isTradingDay market) 10 (number earlier) (number later)
+  pub between : NonTradingBetween (isTradingDay market) most (number earlier) (number later)
   pub one-more : distance ≡ suc (length (daysBetween (number earlier) (number later)))
   pub difference : number earlier + distance ≡ number later
 
+-- at most ten
 abbrev pub Next : ℕ → Date → Date → Type 0
-Next market given answer = NeighbourAnswer market (nextCall market given) answer given answer
+Next market given answer = NeighbourAnswer market 10 (nextCall market given) answer given answer
 
 abbrev pub Previous : ℕ → Date → Date → Type 0
-Previous market given answer = NeighbourAnswer market (previousCall market given) answer answer given
+Previous market given answer = NeighbourAnswer market 10 (previousCall market given) answer answer given
 
 -- ---- months
 
 pub record Month : Type 0 where
   pub year : ℕ
   pub month : ℕ
+
+-- months in order, one after the other, as numbers
+abbrev pub monthNumber : ℕ → ℕ → ℕ
+monthNumber y m = 12 * y + m
 
 -- k months from a month on
 abbrev pub monthsFrom : ℕ → ℕ → ℕ → List Month
@@ -80,7 +86,7 @@ monthsFrom y m (suc k) = record { year = y; month = m } ∷ monthsFrom (nextYear
 -- [agreement-months]: the months from that of the first date to that of the last
 abbrev pub monthsOf : Date → Date → List Month
 monthsOf first last =
-    monthsFrom (first .year) (first .month) (suc (12 * last .year + last .month) - (12 * first .year + first .month))
+    monthsFrom (first .year) (first .month) (suc (monthNumber (last .year) (last .month)) - monthNumber (first .year) (first .month))
 
 abbrev pub monthCall : ℕ → Month → List ℕ → CountAnswer
 monthCall market m buffer = countAnswer (tradingDaysInMonthResult market (m .year) (m .month) buffer)
@@ -128,6 +134,7 @@ partsOf first [] last = record { start = first; end = last } ∷ []
 partsOf first (split ∷ splits) last = record { start = first; end = dayBefore split } ∷ partsOf split splits last
 
 -- [reading-split-dates]: the split dates are dates in order, from the first date on to the last or the day after it. Two may be equal.
+-- Past the first of them, `first` is the last split date before.
 abbrev pub SplitDates : Date → List Date → Date → Type 0
 SplitDates first [] last = number first ≤ suc (number last)
 SplitDates first (split ∷ splits) last = (isDateOf split ≡ true) × (number first ≤ number split) × SplitDates split splits last

@@ -9,8 +9,8 @@ use Rattle.gregorian.specs.Calendar.{leap, leapDay, yearLength, monthLength, to
 use Rattle.gregorian.proofs.Total.{Upto, upto}
 use Rattle.markets.specs.Markets.{isTradingDay}
 use Rattle.ranges.specs.Ranges.{daysFrom}
-use Rattle.ranges.specs.Agreement.{ShortRuns}
-use Rattle.ranges.proofs.Theorem.{agree}
+use Rattle.ranges.specs.Steps.{ShortRuns}
+use Rattle.ranges.proofs.Theorem.{agree-inside}
 use Rattle.ranges.proofs.Runs.{runsUpTo, short-runs}
 use Rattle.longest_run.specs.MarketAgreement.{longestRun, MarketRuns, MarketsAgree}
 use Rattle.longest_run.proofs.ClosedForms.{closedHolidays}
@@ -42,5 +42,5 @@ market-runs market h =
 
 pub markets-agree : MarketsAgree
 markets-agree market a b m l h u =
-    agree (isTradingDay market) longestRun firstDay lastDay (dayNumber 2019 1 1) (dayNumber 2031 12 31) a b (market-runs market m)
+    agree-inside (isTradingDay market) longestRun firstDay lastDay (dayNumber 2019 1 1) (dayNumber 2031 12 31) a b (omega arith) (market-runs market m)
     (omega (arith, bounds)) (omega (arith, bounds)) (omega (arith, bounds, l)) h (omega (arith, bounds, u))

@@ -3,7 +3,8 @@
 use Prim.Native.Nat.{ℕ, _≤_}
 use Rattle.gregorian.specs.Calendar.{firstDay, lastDay, dayNumber}
 use Rattle.markets.specs.Markets.{isTradingDay}
-use Rattle.ranges.specs.Agreement.{ShortRuns, Agreement}
+use Rattle.ranges.specs.Steps.{ShortRuns}
+use Rattle.ranges.specs.Agreement.{Agreement}
 
 abbrev pub longestRun : ℕ
 longestRun = 10

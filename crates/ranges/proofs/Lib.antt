@@ -2,6 +2,8 @@ pub mod Lists
 pub mod Items
 pub mod Search
 pub mod Neighbours
+pub mod Mirror
+pub mod StepLaws
 pub mod Traversals
 pub mod Counts
 pub mod Months

@@ -1,17 +1,14 @@
--- The laws of the next and the previous trading day: a day of the search, for the loops, and where the answer lies.
+-- The laws of the next and the previous trading day for the loops: one day of the search.
 -- Assumes nothing.
-use Prim.Native.Nat.{ℕ, zero, suc, _+_, _-_, _≤_, _<_}
-use mathlib.Core.Path.{_≡_, sym, ap, _∙_, subst}
+use Prim.Native.Nat.{ℕ, suc, _+_, _-_, _≤_, _<_}
+use mathlib.Core.Path.{_≡_, ap, _∙_}
 use mathlib.Core.Bool.{Bool, true, false}
 use mathlib.Core.List.{List, _∷_, reverse}
 use native.Mathlib.Omega.{arith}
-use Rattle.gregorian.specs.Calendar.{firstDay, lastDay}
-use Rattle.utils.specs.declared.OptionalDay.{OptionalDay}
 use Rattle.utils.specs.declared.OptionalDay.the-variants.{Day, None}
-use Rattle.utils.specs.Weekday.{InYears, mapDay}
-use Rattle.ranges.specs.Ranges.{daysFrom, days, found, find, nextTradingDay, previousTradingDay}
-use Rattle.ranges.proofs.Lists.{days-none, days-next, days-last, days-mirror}
-use Rattle.ranges.proofs.Search.{find-none, find-first, find-map}
+use Rattle.ranges.specs.Ranges.{days, found, find, nextTradingDay, previousTradingDay}
+use Rattle.ranges.proofs.Lists.{days-none, days-next, days-last}
+use Rattle.ranges.proofs.Search.{find-none, find-first}
 
 module _ (trades : ℕ → Bool) where
   -- The next one: day m + 1 is looked at, and then the days after it.
@@ -44,23 +41,3 @@ module _ (trades : ℕ → Bool) where
 
     pub previous-passed : first < m → trades (m - 1) ≡ false → previousTradingDay trades first m ≡ previousTradingDay trades first (m - 1)
     previous-passed h e = previous-day h false e
-
--- What holds of no day, and of each of the days, holds of what the search finds.
-find-by : (trades : ℕ → Bool) (P : OptionalDay → Type 0) (k a : ℕ) → P None → ((m : ℕ) → a ≤ m → m < a + k → P (Day m)) → P (find trades (daysFrom a k))
-unfolding daysFrom find
-find-by trades P zero a z h = z
-find-by trades P (suc k) a z h = by-test (trades a) (find-by trades P k (suc a) z (λ m l u. h m (omega arith) (omega arith)))
-  where
-    by-test : (t : Bool) → P (find trades (daysFrom (suc a) k)) → P (found t a (find trades (daysFrom (suc a) k)))
-    by-test true later = h a (omega arith) (omega arith)
-    by-test false later = later
-
--- The answers are days of years 1 to 9999.
-pub next-in-years : (trades : ℕ → Bool) (n : ℕ) → InYears (nextTradingDay trades lastDay n)
-next-in-years trades n = find-by trades InYears (suc lastDay - suc n) (suc n) tt (λ m l u. (omega arith, omega arith))
-
-pub previous-in-years : (trades : ℕ → Bool) (n : ℕ) → 1 ≤ n → n ≤ lastDay → InYears (previousTradingDay trades firstDay n)
-previous-in-years trades n o h =
-    subst InYears
-    (sym (ap (find trades) (days-mirror 1 (n - 1) n (omega arith) o (omega arith)) ∙ find-map trades (λ i. n - i) (days (n - (n - 1)) (n - 1))))
-    (find-by (λ i. trades (n - i)) (λ r. InYears (mapDay (λ i. n - i) r)) (suc (n - 1) - (n - (n - 1))) (n - (n - 1)) tt (λ m l u. (omega arith, omega arith)))

@@ -10,7 +10,7 @@ use native.Mathlib.Omega.{arith}
 use borrow.Author.Tests.{ltb-true}
 use Rattle.gregorian.proofs.Tests.{and-left, and-right}
 use Rattle.ranges.specs.Ranges.{daysFrom}
-use Rattle.ranges.specs.Agreement.{ShortRuns}
+use Rattle.ranges.specs.Steps.{ShortRuns}
 use Rattle.ranges.proofs.Lists.{order}
 
 -- Day after day, whether it trades: no run of those that do not is longer than `most`, with the c days before counted in.

@@ -1,17 +1,27 @@
 -- The search for a trading day: what it finds, and where it finds none.
 -- Assumes nothing.
 use Prim.Native.Nat.{ℕ, zero, suc, _+_, _-_, _≤_, _<_}
-use mathlib.Core.Path.{_≡_, refl, ap, _∙_}
+use mathlib.Core.Path.{_≡_, refl, sym, ap, _∙_, subst}
 use mathlib.Core.Bool.{Bool, true, false}
-use mathlib.Core.Logic.{⊎-elim}
+use mathlib.Core.Logic.{_⊎_, inl, inr, ⊎-elim}
 use mathlib.Core.List.{List, [], _∷_, map}
 use native.Mathlib.Omega.{arith}
 use Rattle.utils.specs.declared.OptionalDay.{OptionalDay}
 use Rattle.utils.specs.declared.OptionalDay.the-variants.{Day, None}
 use Rattle.utils.specs.Weekday.{mapDay}
 use Rattle.ranges.specs.Ranges.{days, found, find}
-use Rattle.ranges.specs.Agreement.{NonTradingBetween, NextCall}
-use Rattle.ranges.proofs.Lists.{test, order, days-next, between-length}
+use Rattle.ranges.proofs.Lists.{test, order, days-none, days-next}
+
+-- A search either finds no day or one.
+pub no-day : (m : ℕ) → None ≡ Day m → ⊥
+no-day m e = let z : _≡_ {A = ℕ} 0 1 = cc in omega arith
+
+pub same-day : (n m : ℕ) → Day n ≡ Day m → n ≡ m
+same-day n m e = cc
+
+pub none-or-day : (o : OptionalDay) → (o ≡ None) ⊎ ((m : ℕ) × (o ≡ Day m))
+none-or-day None = inl refl
+none-or-day (Day m) = inr (m, refl)
 
 module _ (trades : ℕ → Bool) where
   pub find-none : find trades [] ≡ None
@@ -47,10 +57,10 @@ module _ (trades : ℕ → Bool) where
   one-more n P e h i p q = ⊎-elim (λ (l : i ≤ n). ap trades (omega arith) ∙ e) (λ (l : n < i). h i l q) (order i n)
 
   -- m is the first day from n on that trades
-  record First (n m : ℕ) : Type 0 where
-    from : n ≤ m
-    trading : trades m ≡ true
-    non-trading : (i : ℕ) → n ≤ i → i < m → trades i ≡ false
+  pub record First (n m : ℕ) : Type 0 where
+    pub from : n ≤ m
+    pub trading : trades m ≡ true
+    pub non-trading : (i : ℕ) → n ≤ i → i < m → trades i ≡ false
 
   here : (n : ℕ) → trades n ≡ true → First n n
   here n e = record { from = omega arith; trading = e; non-trading = λ i p q. absurd (omega arith) }
@@ -68,21 +78,45 @@ module _ (trades : ℕ → Bool) where
   finds-here : (n m b : ℕ) → n ≡ m → m ≤ b → trades m ≡ true → find trades (days n b) ≡ Day m
   finds-here n m b e l t = ap (λ (i : ℕ). find trades (days i b)) e ∙ from-found m b l t
 
-  finds : (k n m b : ℕ) → m ≤ n + k → m ≤ b → First n m → find trades (days n b) ≡ Day m
-  finds zero n m b h l f = finds-here n m b (omega (arith, f .from)) l (f .trading)
-  finds (suc k) n m b h l f =
+  finds-within : (k n m b : ℕ) → m ≤ n + k → m ≤ b → First n m → find trades (days n b) ≡ Day m
+  finds-within zero n m b h l f = finds-here n m b (omega (arith, f .from)) l (f .trading)
+  finds-within (suc k) n m b h l f =
       ⊎-elim (λ (q : m ≤ n). finds-here n m b (omega (arith, f .from)) l (f .trading))
       (λ (q : n < m).
       from-passed n b (omega arith) (f .non-trading n (omega arith) q)
-      ∙ finds k (suc n) m b (omega arith) l (record { from = q; trading = f .trading; non-trading = λ i x y. f .non-trading i (omega arith) y }))
+      ∙ finds-within k (suc n) m b (omega arith) l (record { from = q; trading = f .trading; non-trading = λ i x y. f .non-trading i (omega arith) y }))
       (order m n)
 
-  -- The next call on n, where one of the days after it trades, up to `most` and one.
-  pub next-call : (most last n w : ℕ) → n < w → w ≤ n + suc most → w ≤ last → trades w ≡ true → (m : ℕ) × NextCall trades most last n m
-  next-call most last n w h k l e =
-      let r = first (w - suc n) (suc n) (ap trades (omega arith) ∙ e) in
-      let m : ℕ = r .0 in
-      let f = r .2 in
-      let between : NonTradingBetween trades most n m =
-      record { ordered = f .from; at-most = omega (arith, r .1, between-length n m (f .from)); non-trading = f .non-trading } in
-      (m, (finds (w - suc n) (suc n) m last (r .1) (omega (arith, r .1)) f, f .trading, between))
+  pub finds : (n m b : ℕ) → m ≤ b → First n m → find trades (days n b) ≡ Day m
+  finds n m b = finds-within m n m b (omega arith)
+
+  -- What a search finds is the first; and where a day trades, it finds one.
+  finds-none : (n m b : ℕ) → b < n → find trades (days n b) ≡ Day m → ⊥
+  finds-none n m b h e = no-day m (sym (ap (find trades) (days-none n b h) ∙ find-none) ∙ e)
+
+  found-within : (k n m b : ℕ) → b < n + k → find trades (days n b) ≡ Day m → (m ≤ b) × First n m
+  found-within zero n m b h e = absurd (finds-none n m b (omega arith) e)
+  found-within (suc k) n m b h e =
+      ⊎-elim
+      (λ (l : n ≤ b).
+      ⊎-elim
+      (λ (t : trades n ≡ true).
+      subst (λ (i : ℕ). (i ≤ b) × First n i) (same-day n m (sym (from-found n b l t) ∙ e)) (l, here n t))
+      (λ (t : trades n ≡ false).
+      let r = found-within k (suc n) m b (omega arith) (sym (from-passed n b l t) ∙ e) in
+      (r .0, past n m t (r .1)))
+      (test (trades n)))
+      (λ (l : b < n). absurd (finds-none n m b l e))
+      (order n b)
+
+  pub is-first : (n m b : ℕ) → find trades (days n b) ≡ Day m → (m ≤ b) × First n m
+  is-first n m b = found-within (suc b) n m b (omega arith)
+
+  pub finds-one : (n w b : ℕ) → n ≤ w → w ≤ b → trades w ≡ true → (m : ℕ) × (m ≤ w) × (find trades (days n b) ≡ Day m)
+  finds-one n w b h l e =
+      let r = first (w - n) n (ap trades (omega arith) ∙ e) in
+      (r .0, omega (arith, r .1), finds n (r .0) b (omega (arith, r .1)) (r .2))
+
+  pub none-trades : (n b : ℕ) → find trades (days n b) ≡ None → (i : ℕ) → n ≤ i → i ≤ b → trades i ≡ false
+  none-trades n b e i h l =
+      ⊎-elim (λ (t : trades i ≡ true). let r = finds-one n i b h l t in absurd (no-day (r .0) (sym e ∙ r .2))) (λ t. t) (test (trades i))

@@ -1,127 +1,150 @@
--- The two traversals of a range. The backward one is the forward one in the mirror.
+-- Traversals: any, and the two of a range. The backward one is the forward one in the mirror.
 -- Assumes nothing.
 use Prim.Native.Nat.{ℕ, zero, suc, _+_, _-_, _≤_, _<_}
 use mathlib.Core.Path.{_≡_, refl, sym, ap, ap₂, _∙_, subst, subst₂}
-use mathlib.Core.Bool.{Bool, true}
-use mathlib.Core.Logic.{⊎-elim}
-use mathlib.Core.List.{List, [], _∷_, map, reverse}
+use mathlib.Core.Bool.{Bool, true, false}
+use mathlib.Core.Logic.{inl, inr, ⊎-elim}
+use mathlib.Core.List.{List, [], _∷_, map, map-id, reverse}
 use lib.Dec.{leb}
 use native.Mathlib.Omega.{arith}
 use borrow.Author.Tests.{leb-true, le-leb, lt-leb}
+use Rattle.utils.specs.declared.OptionalDay.{OptionalDay}
+use Rattle.utils.specs.declared.OptionalDay.the-variants.{Day, None}
 use Rattle.utils.specs.Weekday.{mapDay}
-use Rattle.ranges.specs.Ranges.{days, find, tradingDays}
-use Rattle.ranges.specs.Agreement.{Traversal, NextCall, PreviousCall, ShortRuns}
-use Rattle.ranges.proofs.Lists.{clash, order, all-fail, first-passes, between-length, days-mirror, trading-mirror}
-use Rattle.ranges.proofs.Search.{find-map, next-call}
+use Rattle.ranges.specs.Ranges.{tradingDays, nextTradingDay, previousTradingDay}
+use Rattle.ranges.specs.Steps.{NextCall, PreviousCall, ShortRuns}
+use Rattle.ranges.specs.Agreement.{TraversalTo, EndsOutside, TraversalOf, EndsOutsideOrNone}
+use Rattle.ranges.proofs.Lists.{clash, order, all-fail, first-passes, trading-mirror}
+use Rattle.ranges.proofs.Search.{none-or-day, none-trades}
+use Rattle.ranges.proofs.Mirror.{mirrored, previous-mirror, mirror-call, mirror-runs}
+use Rattle.ranges.proofs.StepLaws.{next-is-short}
 
--- A traversal under another view of its items. P is known of the first item, and then of each that is inside.
-pub traversal-map : {A B : Type 0} (f : A → B) (C : A → A → Type 0) (D : B → B → Type 0) (p : A → Bool) (q : B → Bool) (P : A → Type 0)
-    → ((n m : A) → P n → C n m → D (f n) (f m) × (q (f m) ≡ p m) × (p m ≡ true → P m))
-    → (n : A) (l : List A) → P n → Traversal C p n l → Traversal D q (f n) (map f l)
-traversal-map f C D p q P h n [] k t = let g = h n (t .0) k (t .1) in (f (t .0), g .0, g .1 ∙ t .2)
-traversal-map f C D p q P h n (m ∷ l) k t =
-    let g = h n m k (t .0) in
-    (g .0, g .1 ∙ t .1, traversal-map f C D p q P h m l (g .2 (t .1)) (t .2))
+-- ---- any traversal
 
--- Where a call has one answer, a traversal has one list.
-pub traversal-unique : {A : Type 0} (C : A → A → Type 0) (p : A → Bool) → ((n m k : A) → C n m → C n k → m ≡ k)
-    → (n : A) (l r : List A) → Traversal C p n l → Traversal C p n r → l ≡ r
-traversal-unique C p h n [] [] t u = refl
-traversal-unique C p h n [] (k ∷ r) t u = absurd (clash (p k) (u .1) (ap p (h n k (t .0) (u .0) (t .1)) ∙ t .2))
-traversal-unique C p h n (m ∷ l) [] t u = absurd (clash (p m) (t .1) (ap p (h n m (u .0) (t .0) (u .1)) ∙ u .2))
-traversal-unique C p h n (m ∷ l) (k ∷ r) t u =
-    let e = h n m k (t .0) (u .0) in
-    ap₂ (λ (x : _) (y : List _). x ∷ y) e (traversal-unique C p h m l r (t .2) (subst (λ (x : _). Traversal C p x r) (sym e) (u .2)))
+-- The same calls under another view of their items. P is known of the first item, and then of each that is inside.
+module _ {A B : Type 0} (f : A → B) (C : A → A → Type 0) (D : B → B → Type 0) (p : A → Bool) (q : B → Bool) (P : A → Type 0)
+    (h : (n m : A) → P n → C n m → D (f n) (f m) × (q (f m) ≡ p m) × (p m ≡ true → P m)) where
+  pub traversal-map : (E : A → Type 0) (F : B → Type 0) → ((n : A) → P n → E n → F (f n))
+      → (n : A) (l : List A) → P n → TraversalTo C p E n l → TraversalTo D q F (f n) (map f l)
+  traversal-map E F e n [] k t = e n k t
+  traversal-map E F e n (m ∷ l) k t =
+      let g = h n m k (t .0) in
+      (g .0, g .1 ∙ t .1, traversal-map E F e m l (g .2 (t .1)) (t .2))
 
--- In the mirror two days are no further from each other, and no more days are between them.
-mirror-distance : (c n m : ℕ) → c - n - (c - m) ≤ m - n
-mirror-distance c n m = omega arith
+  pub outside-map : (n : A) → P n → EndsOutside C p n → EndsOutside D q (f n)
+  outside-map n k t = let g = h n (t .0) k (t .1) in (f (t .0), g .0, g .1 ∙ t .2)
 
-no-more : (x y d e most : ℕ) → suc x ≡ d → suc y ≡ e → e ≤ d → x ≤ most → y ≤ most
-no-more x y d e most p q h l = omega arith
+-- Where a call has one answer, and one that ends the traversal none inside, a traversal has one list.
+module _ {A : Type 0} (C : A → A → Type 0) (p : A → Bool) (h : (n m k : A) → C n m → C n k → m ≡ k) where
+  pub traversal-unique : (E : A → Type 0) → ((n m : A) → E n → C n m → p m ≡ false)
+      → (n : A) (l r : List A) → TraversalTo C p E n l → TraversalTo C p E n r → l ≡ r
+  traversal-unique E e n [] [] t u = refl
+  traversal-unique E e n [] (k ∷ r) t u = absurd (clash (p k) (u .1) (e n k t (u .0)))
+  traversal-unique E e n (m ∷ l) [] t u = absurd (clash (p m) (t .1) (e n m u (t .0)))
+  traversal-unique E e n (m ∷ l) (k ∷ r) t u =
+      let q = h n m k (t .0) (u .0) in
+      ap₂ (λ (x : _) (y : List _). x ∷ y) q (traversal-unique E e m l r (t .2) (subst (λ (x : _). TraversalTo C p E x r) (sym q) (u .2)))
 
--- Where the next call on each day from s to b answers, the answers from s on up to b are the trading days after s up to b. At most
--- k days are left.
-forward-from : (trades : ℕ → Bool) (most last s b : ℕ) → ((n : ℕ) → s ≤ n → n ≤ b → (m : ℕ) × NextCall trades most last n m)
-    → (k n : ℕ) → s ≤ n → n ≤ b → b < n + k → Traversal (NextCall trades most last) (λ m. leb m b) n (tradingDays trades (suc n) b)
-forward-from trades most last s b calls zero n g h l = absurd (omega arith)
-forward-from trades most last s b calls (suc k) n g h l =
-    let r = calls n g h in
-    let m : ℕ = r .0 in
-    let c : NextCall trades most last n m = r .1 in
-    let up = c .2 .ordered in
-    ⊎-elim
-    (λ (t : m ≤ b).
-    subst (Traversal (NextCall trades most last) (λ m. leb m b) n) (sym (first-passes trades (suc n) m b up t (c .1) (c .2 .non-trading)))
-    (c, le-leb m b t, forward-from trades most last s b calls k m (omega arith) t (omega arith)))
-    (λ (t : b < m).
-    subst (Traversal (NextCall trades most last) (λ m. leb m b) n) (sym (all-fail trades (suc n) b (λ i x y. c .2 .non-trading i x (omega arith))))
-    (m, c, lt-leb m b t))
-    (order m b)
+  pub outside-ends : (n m : A) → EndsOutside C p n → C n m → p m ≡ false
+  outside-ends n m t c = ap p (h n m (t .0) c (t .1)) ∙ t .2
 
-module _ (trades : ℕ → Bool) (most first last low high a b : ℕ) (runs : ShortRuns trades most low high) (o : first ≤ low) (z : high ≤ last) (p : low + suc most ≤ a) (h : a ≤ b) (q : b + suc most ≤ high) where
-  pub forward : Traversal (NextCall trades most last) (λ m. leb m b) (a - 1) (tradingDays trades a b)
-  forward =
-      let e : suc (a - 1) ≡ a = omega arith in
-      subst (λ (x : ℕ). Traversal (NextCall trades most last) (λ m. leb m b) (a - 1) (tradingDays trades x b)) e
-      (forward-from trades most last (a - 1) b calls (suc b) (a - 1) (omega arith) (omega arith) (omega arith))
+-- From the first item of its list on, a traversal lists the same.
+pub traversal-of : {A : Type 0} (C : A → A → Type 0) (p : A → Bool) (E : A → Type 0) (n : A) (l : List A) → TraversalTo C p E n l → TraversalOf C p E l
+traversal-of C p E n [] t = tt
+traversal-of C p E n (m ∷ l) t = t .2
+
+-- Where every call answers, no traversal ends by none.
+pub every-call-answers : (C D : ℕ → ℕ → Type 0) (neighbour : ℕ → OptionalDay) (p : ℕ → Bool) (P : ℕ → Type 0)
+    → ((n m : ℕ) → P n → C n m → D n m × (p m ≡ true → P m)) → ((n : ℕ) → P n → neighbour n ≡ None → ⊥)
+    → (n : ℕ) (l : List ℕ) → P n → TraversalTo C p (EndsOutsideOrNone C neighbour p) n l → TraversalTo D p (EndsOutside D p) n l
+every-call-answers C D neighbour p P h e n l k t =
+    subst (TraversalTo D p (EndsOutside D p) n) (map-id l)
+    (traversal-map (λ i. i) C D p p P same (EndsOutsideOrNone C neighbour p) (EndsOutside D p) (λ n k. ⊎-elim (outside-map (λ i. i) C D p p P same n k) (λ z. absurd (e n k z))) n l k t)
+  where
+    same : (n m : ℕ) → P n → C n m → D n m × (p m ≡ p m) × (p m ≡ true → P m)
+    same n m k c = let g = h n m k c in (g .0, refl, g .1)
+
+-- ---- forward
+
+module _ (trades : ℕ → Bool) (most first last : ℕ) (runs : ShortRuns trades most first last) (b : ℕ) (z : b ≤ last) where
+  abbrev Forward : ℕ → List ℕ → Type 0
+  Forward = TraversalTo (NextCall trades most last) (λ m. leb m b) (EndsOutsideOrNone (NextCall trades most last) (nextTradingDay trades last) (λ m. leb m b))
+
+  -- The answers from n on up to b are the trading days after n up to b. At most k days are left.
+  forward-from : (k n : ℕ) → first ≤ suc n → n ≤ b → b < n + k → Forward n (tradingDays trades (suc n) b)
+  forward-from zero n g h l = absurd (omega arith)
+  forward-from (suc k) n g h l =
+      ⊎-elim none (λ (r : (m : ℕ) × (nextTradingDay trades last n ≡ Day m)). some (r .0) (r .1) (forward-from k (r .0)))
+      (none-or-day (nextTradingDay trades last n))
     where
-      calls : (n : ℕ) → a - 1 ≤ n → n ≤ b → (m : ℕ) × NextCall trades most last n m
-      calls n l k =
-          let w = runs (suc n) (omega arith) (omega arith) in
-          next-call trades most last n (w .0) (w .1) (omega (arith, w .2)) (omega (arith, w .2)) (w .3)
+      none : nextTradingDay trades last n ≡ None → Forward n (tradingDays trades (suc n) b)
+      none e = subst (Forward n) (sym (all-fail trades (suc n) b (λ i x y. none-trades trades (suc n) last e i x (omega arith)))) (inr e)
 
-  -- in the mirror, where day c is at 0 and the range at 1 to suc b - a
+      some : (m : ℕ) → nextTradingDay trades last n ≡ Day m → (first ≤ suc m → m ≤ b → b < m + k → Forward m (tradingDays trades (suc m) b))
+          → Forward n (tradingDays trades (suc n) b)
+      some m e rest =
+          let c = next-is-short trades most first last runs n m g e in
+          let up = c .2 .ordered in
+          ⊎-elim
+          (λ (t : m ≤ b).
+          subst (Forward n) (sym (first-passes trades (suc n) m b up t (c .1) (c .2 .non-trading)))
+          (c, le-leb m b t, rest (omega arith) t (omega arith)))
+          (λ (t : b < m).
+          subst (Forward n) (sym (all-fail trades (suc n) b (λ i x y. c .2 .non-trading i x (omega arith)))) (inl (m, c, lt-leb m b t)))
+          (order m b)
+
+  pub forward : (a : ℕ) → 1 ≤ a → first ≤ a → a ≤ b → Forward (a - 1) (tradingDays trades a b)
+  forward a o l h =
+      let e : suc (a - 1) ≡ a = omega arith in
+      subst (λ (x : ℕ). Forward (a - 1) (tradingDays trades x b)) e (forward-from (suc b) (a - 1) (omega arith) (omega arith) (omega arith))
+
+-- ---- backward, in the mirror, where the day after the range is at 0 and the range at 1 to suc b - a
+
+module _ (trades : ℕ → Bool) (most first last : ℕ) (o : 1 ≤ first) (runs : ShortRuns trades most first last) (a b : ℕ) (l : first ≤ a) (h : a ≤ b) (z : b ≤ last) where
   abbrev c : ℕ
   c = suc b
 
-  abbrev mirror : ℕ → ℕ
-  mirror i = c - i
+  abbrev In : ℕ → ℕ → Type 0
+  In = NextCall (mirrored trades c) most (c - first)
 
-  abbrev mirrored : ℕ → Bool
-  mirrored i = trades (c - i)
+  abbrev Out : ℕ → ℕ → Type 0
+  Out = PreviousCall trades most first
 
-  mirrored-trades : (m : ℕ) → m ≤ c → trades m ≡ true → mirrored (c - m) ≡ true
-  mirrored-trades m k e = let same : c - (c - m) ≡ m = omega arith in ap trades same ∙ e
+  mirror-runs-to-b : ShortRuns (mirrored trades c) most 1 (c - first)
+  mirror-runs-to-b =
+      let one : c - b ≡ 1 = omega arith in
+      subst (λ (x : ℕ). ShortRuns (mirrored trades c) most x (c - first)) one
+      (mirror-runs trades c most first b (omega arith) (λ n x y. runs n x (omega arith)))
 
-  mirrored-call : (n : ℕ) → 0 ≤ n → n ≤ suc b - a → (m : ℕ) × NextCall mirrored most (c - first) n m
-  mirrored-call n l k =
-      let w = runs (c - (n + suc most)) (omega arith) (omega arith) in
-      let m = w .0 in
-      let from = w .1 in
-      let to = w .2 in
-      next-call mirrored most (c - first) n (c - m) (omega (arith, from, to)) (omega (arith, from, to)) (omega (arith, from, to))
-      (mirrored-trades m (omega (arith, from, to)) (w .3))
-
-  -- a call of the mirrored traversal is a previous call
-  mirror-call : (n m : ℕ) → n ≤ suc b - a → NextCall mirrored most (c - first) n m → PreviousCall trades most first (c - n) (c - m)
-  mirror-call n m k s =
-      let up = s .2 .ordered in
-      let down : c - m < c - n = omega arith in (
-        ap (find trades) (days-mirror first (c - n - 1) c (omega arith) (omega arith) (omega arith))
-            ∙ find-map trades mirror (days (c - (c - n - 1)) (c - first))
-            ∙ ap (mapDay mirror) (ap (λ (x : ℕ). find mirrored (days x (c - first))) (omega arith) ∙ s .0),
-        s .1,
-        record {
-          ordered = down;
-          at-most = no-more _ _ _ _ most (between-length n m up) (between-length (c - m) (c - n) down) (mirror-distance c n m) (s .2 .at-most);
-          non-trading = λ i x y. let e : i ≡ c - (c - i) = omega arith in ap trades e ∙ s .2 .non-trading (c - i) (omega arith) (omega arith);
-        },
+  -- a call of the mirrored traversal, and how it ends
+  out-call : (n m : ℕ) → n ≤ c - a → In n m → Out (c - n) (c - m) × (leb a (c - m) ≡ leb m (c - a)) × (leb m (c - a) ≡ true → m ≤ c - a)
+  out-call n m k s =
+      let same : c - (c - n) ≡ n = omega arith in (
+        mirror-call trades c first o most (c - n) m (omega arith) (subst (λ (i : ℕ). In i m) (sym same) s),
+        ⊎-elim (λ (t : m ≤ c - a). le-leb a (c - m) (omega arith) ∙ sym (le-leb m (c - a) t))
+            (λ (t : c - a < m). lt-leb a (c - m) (omega arith) ∙ sym (lt-leb m (c - a) t)) (order m (c - a)),
+        leb-true m (c - a),
       )
 
-  mirror-inside : (m : ℕ) → leb a (c - m) ≡ leb m (suc b - a)
-  mirror-inside m =
-      ⊎-elim (λ (l : m ≤ suc b - a). le-leb a (c - m) (omega arith) ∙ sym (le-leb m (suc b - a) l))
-      (λ (l : suc b - a < m). lt-leb a (c - m) (omega arith) ∙ sym (lt-leb m (suc b - a) l)) (order m (suc b - a))
+  out-ends : (n : ℕ) → n ≤ c - a → EndsOutsideOrNone In (nextTradingDay (mirrored trades c) (c - first)) (λ m. leb m (c - a)) n
+      → EndsOutsideOrNone Out (previousTradingDay trades first) (λ m. leb a m) (c - n)
+  out-ends n k =
+      ⊎-elim (λ t. inl (outside-map (λ i. c - i) In Out (λ m. leb m (c - a)) (λ m. leb a m) (λ n. n ≤ c - a) out-call n k t))
+      (λ e.
+      let same : c - (c - n) ≡ n = omega arith in
+      inr (previous-mirror trades c first o (c - n) (omega arith)
+      ∙ ap (λ (i : ℕ). mapDay (λ j. c - j) (nextTradingDay (mirrored trades c) (c - first) i)) same
+      ∙ ap (mapDay (λ j. c - j)) e))
 
-  pub backward : Traversal (PreviousCall trades most first) (λ m. leb a m) (suc b) (reverse (tradingDays trades a b))
+  pub backward : TraversalTo Out (λ m. leb a m) (EndsOutsideOrNone Out (previousTradingDay trades first) (λ m. leb a m)) (suc b) (reverse (tradingDays trades a b))
   backward =
       let start : c - 0 ≡ suc b = omega arith in
       let from : c - b ≡ 1 = omega arith in
-      let list : reverse (tradingDays trades a b) ≡ map mirror (tradingDays mirrored 1 (suc b - a)) =
-      trading-mirror trades a b c (omega arith) (omega arith) (omega arith) ∙ ap (λ (x : ℕ). map mirror (tradingDays mirrored x (c - a))) from in
-      subst₂ (Traversal (PreviousCall trades most first) (λ m. leb a m)) start (sym list)
-      (traversal-map mirror (NextCall mirrored most (c - first)) (PreviousCall trades most first) (λ m. leb m (suc b - a)) (λ m. leb a m) (λ n. n ≤ suc b - a)
-      (λ n m k s. (mirror-call n m k s, mirror-inside m, leb-true m (suc b - a)))
-      0 (tradingDays mirrored 1 (suc b - a)) (omega arith)
-      (forward-from mirrored most (c - first) 0 (suc b - a) mirrored-call (suc (suc b)) 0 (omega arith) (omega arith) (omega arith)))
+      let list : reverse (tradingDays trades a b) ≡ map (λ i. c - i) (tradingDays (mirrored trades c) 1 (c - a)) =
+      trading-mirror trades a b c (omega arith) (omega arith) (omega arith) ∙ ap (λ (x : ℕ). map (λ i. c - i) (tradingDays (mirrored trades c) x (c - a))) from in
+      subst₂ (TraversalTo Out (λ m. leb a m) (EndsOutsideOrNone Out (previousTradingDay trades first) (λ m. leb a m))) start (sym list)
+      (traversal-map (λ i. c - i) In Out (λ m. leb m (c - a)) (λ m. leb a m) (λ n. n ≤ c - a) out-call
+      (EndsOutsideOrNone In (nextTradingDay (mirrored trades c) (c - first)) (λ m. leb m (c - a)))
+      (EndsOutsideOrNone Out (previousTradingDay trades first) (λ m. leb a m)) out-ends
+      0 (tradingDays (mirrored trades c) 1 (c - a)) (omega arith)
+      (forward (mirrored trades c) most 1 (c - first) mirror-runs-to-b (c - a) (omega arith) 1 (omega arith) (omega arith) (omega arith)))

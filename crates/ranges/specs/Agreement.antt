@@ -1,36 +1,46 @@
 -- What it is for the ways to the trading days of a range to agree: docs/SCOPE.md [agreement]. Assumes nothing.
-use Prim.Native.Nat.{ℕ, suc, _+_, _-_, _≤_, _<_}
+use Prim.Native.Nat.{ℕ, suc, _+_, _-_, _≤_}
 use mathlib.Core.Path.{_≡_}
 use mathlib.Core.Bool.{Bool, true, false}
+use mathlib.Core.Logic.{_⊎_}
 use mathlib.Core.List.{List, [], _∷_, reverse}
 use lib.Dec.{leb}
 use lib.ListN.{length}
-use Rattle.utils.specs.declared.OptionalDay.the-variants.{Day}
-use Rattle.ranges.specs.Ranges.{daysBetween, tradingDays, nextTradingDay, previousTradingDay, countTradingDays, DateRange, parts, sumOf, joined, limitTo}
+use Rattle.utils.specs.declared.OptionalDay.{OptionalDay}
+use Rattle.utils.specs.declared.OptionalDay.the-variants.{None}
+use Rattle.ranges.specs.Ranges.{tradingDays, nextTradingDay, previousTradingDay, countTradingDays, DateRange, parts, sumOf, joined, limitTo}
+use Rattle.ranges.specs.Steps.{NextCall, PreviousCall, ShortRuns}
 
--- A traversal ("walk") from n lists these answers: call after call, each on the answer before, while that is inside. The first
--- answer that is not ends the traversal, and is not listed. `Call n m` says that the call on n answers m, and what else is
--- to hold of that call ("step"); it holds of every call, the last one too. proofs/Traversals.antt, `traversal-unique`: where a call
--- has one answer, there is no other list.
+-- ---- traversals
+
+-- A traversal ("walk") from n lists these answers: call after call, each on the answer before, while that is inside. `Call n m` says
+-- that the call on n answers m, and what else is to hold of that call ("step"). `Ends n` says of the last call, on n, that it ends the
+-- traversal; it lists nothing. proofs/Traversals.antt, `traversal-unique`: where a call has one answer, there is no other list.
+abbrev pub TraversalTo : {A : Type 0} → (A → A → Type 0) → (A → Bool) → (A → Type 0) → A → List A → Type 0
+TraversalTo Call inside Ends n [] = Ends n
+TraversalTo Call inside Ends n (m ∷ ms) = Call n m × (inside m ≡ true) × TraversalTo Call inside Ends m ms
+
+-- the call on n answers, and the answer is not inside
+abbrev pub EndsOutside : {A : Type 0} → (A → A → Type 0) → (A → Bool) → A → Type 0
+EndsOutside Call inside n = (m : _) × Call n m × (inside m ≡ false)
+
+-- Only such an answer ends the traversal: every call answers, the last one too.
 abbrev pub Traversal : {A : Type 0} → (A → A → Type 0) → (A → Bool) → A → List A → Type 0
-Traversal Call inside n [] = (m : _) × Call n m × (inside m ≡ false)
-Traversal Call inside n (m ∷ ms) = Call n m × (inside m ≡ true) × Traversal Call inside m ms
+Traversal Call inside = TraversalTo Call inside (EndsOutside Call inside)
 
--- [agreement-call]: the days strictly between two days (the closed days that a "step" passes) are at most so many, and none trades.
-pub record NonTradingBetween (trades : ℕ → Bool) (most earlier later : ℕ) : Type 0 where
-  pub ordered : earlier < later
-  pub at-most : length (daysBetween earlier later) ≤ most
-  pub non-trading : (k : ℕ) → earlier < k → k < later → trades k ≡ false
+-- A traversal that starts on an item of its own list, the first. Where there is none, nothing is called and nothing listed.
+abbrev pub TraversalOf : {A : Type 0} → (A → A → Type 0) → (A → Bool) → (A → Type 0) → List A → Type 0
+TraversalOf Call inside Ends [] = Unit {0}
+TraversalOf Call inside Ends (m ∷ ms) = TraversalTo Call inside Ends m ms
 
--- the next call on n answers the trading day m
-abbrev pub NextCall : (ℕ → Bool) → ℕ → ℕ → ℕ → ℕ → Type 0
-NextCall trades most last n m = (nextTradingDay trades last n ≡ Day m) × (trades m ≡ true) × NonTradingBetween trades most n m
+-- An answer that is not inside ends it, or that there is none.
+abbrev pub EndsOutsideOrNone : (ℕ → ℕ → Type 0) → (ℕ → OptionalDay) → (ℕ → Bool) → ℕ → Type 0
+EndsOutsideOrNone Call neighbour inside n = EndsOutside Call inside n ⊎ (neighbour n ≡ None)
 
--- the previous call on n answers the trading day m
-abbrev pub PreviousCall : (ℕ → Bool) → ℕ → ℕ → ℕ → ℕ → Type 0
-PreviousCall trades most first n m = (previousTradingDay trades first n ≡ Day m) × (trades m ≡ true) × NonTradingBetween trades most m n
+-- ---- parts and months
 
 -- [reading-split-dates]: the split dates are in order, from a to b or the day after b, which starts an empty part. Two may be equal.
+-- Past the first of them, a is the last split date before.
 abbrev pub Splits : ℕ → List ℕ → ℕ → Type 0
 Splits a [] b = a ≤ suc b
 Splits a (c ∷ splits) b = (a ≤ c) × Splits c splits b
@@ -40,10 +50,6 @@ abbrev pub Tile : ℕ → List DateRange → ℕ → Type 0
 Tile a [] b = a ≡ suc b
 Tile a (r ∷ rs) b = (r .first ≡ a) × (a ≤ suc (r .last)) × Tile (suc (r .last)) rs b
 
--- No run of non-trading days from `low` to `high` is longer than `most`: of any `most` and one days in a row, one trades.
-abbrev pub ShortRuns : (ℕ → Bool) → ℕ → ℕ → ℕ → Type 0
-ShortRuns trades most low high = (n : ℕ) → low ≤ n → n + most ≤ high → (m : ℕ) × (n ≤ m) × (m ≤ n + most) × (trades m ≡ true)
-
 -- the count of a range, and the list of a range
 abbrev pub countOf : (ℕ → Bool) → DateRange → ℕ
 countOf trades r = countTradingDays trades (r .first) (r .last)
@@ -51,17 +57,36 @@ countOf trades r = countTradingDays trades (r .first) (r .last)
 abbrev pub listOf : (ℕ → Bool) → DateRange → List ℕ
 listOf trades r = tradingDays trades (r .first) (r .last)
 
+-- ---- the theorem
+
 -- The ways to the trading days from a to b agree: [agreement-forward], [agreement-backward], [agreement-count], [agreement-parts] and
--- [agreement-months]. All days are those from `first` to `last`.
-pub record Agreement (trades : ℕ → Bool) (most first last a b : ℕ) : Type 0 where
-  pub forward : Traversal (NextCall trades most last) (λ m. leb m b) (a - 1) (tradingDays trades a b)
-  pub backward : Traversal (PreviousCall trades most first) (λ m. leb a m) (suc b) (reverse (tradingDays trades a b))
+-- [agreement-months]. All days are those from `first` to `last`. A traversal starts beside the range, or, where that is no day of
+-- these, on the first or last trading day of the range; `NextEnds` and `PreviousEnds` say how it ends.
+pub record AgreementTo (trades : ℕ → Bool) (most first last a b : ℕ) (NextEnds PreviousEnds : ℕ → Type 0) : Type 0 where
+  pub forward : TraversalTo (NextCall trades most last) (λ m. leb m b) NextEnds (a - 1) (tradingDays trades a b)
+  pub forward-of : TraversalOf (NextCall trades most last) (λ m. leb m b) NextEnds (tradingDays trades a b)
+  pub backward : TraversalTo (PreviousCall trades most first) (λ m. leb a m) PreviousEnds (suc b) (reverse (tradingDays trades a b))
+  pub backward-of : TraversalOf (PreviousCall trades most first) (λ m. leb a m) PreviousEnds (reverse (tradingDays trades a b))
   pub count : countTradingDays trades a b ≡ length (tradingDays trades a b)
   pub parts-add-up : (splits : List ℕ) → Splits a splits b → sumOf (countOf trades) (parts a splits b) ≡ countTradingDays trades a b
   pub empty-part : (c : ℕ) → a ≤ c → countTradingDays trades c (c - 1) ≡ 0
   pub months : (low high : ℕ) (rs : List DateRange) → Tile low rs high → low ≤ a → b ≤ high → limitTo a b (joined (listOf trades) rs) ≡ tradingDays trades a b
 
--- The theorem: where the runs are short from `low` to `high`, which reach further than the range by as many days and one on each side.
+-- The theorem: where runs are short, on every range, one that reaches `first` or `last` too. There a traversal may end by none.
 abbrev pub Agree : (ℕ → Bool) → ℕ → ℕ → ℕ → Type 0
 Agree trades most first last =
-    (low high a b : ℕ) → ShortRuns trades most low high → first ≤ low → high ≤ last → low + suc most ≤ a → a ≤ b → b + suc most ≤ high → Agreement trades most first last a b
+    (a b : ℕ) → 1 ≤ first → ShortRuns trades most first last → first ≤ a → a ≤ b → b ≤ last
+    → AgreementTo trades most first last a b (EndsOutsideOrNone (NextCall trades most last) (nextTradingDay trades last) (λ m. leb m b))
+    (EndsOutsideOrNone (PreviousCall trades most first) (previousTradingDay trades first) (λ m. leb a m))
+
+-- every call answers
+abbrev pub Agreement : (ℕ → Bool) → ℕ → ℕ → ℕ → ℕ → ℕ → Type 0
+Agreement trades most first last a b =
+    AgreementTo trades most first last a b (EndsOutside (NextCall trades most last) (λ m. leb m b)) (EndsOutside (PreviousCall trades most first) (λ m. leb a m))
+
+-- What follows where runs are short from `low` to `high`, which reach further than the range by `most + 1` days on each side, whatever
+-- the runs are before and after.
+abbrev pub AgreeInside : (ℕ → Bool) → ℕ → ℕ → ℕ → Type 0
+AgreeInside trades most first last =
+    (low high a b : ℕ) → 1 ≤ first → ShortRuns trades most low high → first ≤ low → high ≤ last → low + suc most ≤ a → a ≤ b → b + suc most ≤ high
+    → Agreement trades most first last a b

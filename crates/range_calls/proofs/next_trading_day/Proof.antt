@@ -2,7 +2,7 @@
 use mathlib.Core.Path.{_≡_, sym, _∙_, subst}
 use borrow.Author.Needs.{needs}
 use Rattle.utils.specs.Weekday.{InYears}
-use Rattle.ranges.proofs.Neighbours.{next-in-years}
+use Rattle.ranges.proofs.StepLaws.{next-in-years}
 use Rattle.calendar.specs.declared.DayResult.{DayResult}
 use Rattle.calendar.specs.Calls.{checkedDay}
 use Rattle.calendar.proofs.CallLaws.{checked-date, checked-in-years, past-error}

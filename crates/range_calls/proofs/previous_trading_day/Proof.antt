@@ -2,7 +2,7 @@
 use mathlib.Core.Path.{_≡_, sym, _∙_, subst}
 use borrow.Author.Needs.{needs}
 use Rattle.utils.specs.Weekday.{InYears}
-use Rattle.ranges.proofs.Neighbours.{previous-in-years}
+use Rattle.ranges.proofs.StepLaws.{previous-in-years}
 use Rattle.calendar.specs.declared.DayResult.{DayResult}
 use Rattle.calendar.specs.Calls.{checkedDay}
 use Rattle.calendar.proofs.CallLaws.{checked-date, checked-in-years, past-error}
@@ -21,7 +21,7 @@ trading-day-result-requires : tie.Need-trading-day-result-requires
 trading-day-result-requires c κs =
     let d = checked-date _ _ _ _ _ (day (c .before .before)) in
     let h = previous-trading-day-requires (c .before) κs in
-    (d .0, sym (d .1), subst InYears (sym (c .previous-trading-day .ensures)) (previous-in-years _ _ (h .0) (h .1)))
+    (d .0, sym (d .1), subst InYears (sym (c .previous-trading-day .ensures)) (previous-in-years _ _ (h .1)))
 
 returns : tie.Need-returns
 returns c =
