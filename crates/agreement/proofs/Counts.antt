@@ -17,6 +17,7 @@ use Rattle.range_calls.proofs.CountLaws.{count-of-dates}
 use Rattle.answers.specs.declared.counts.CountAnswer.{CountAnswer}
 use Rattle.answers.specs.Answers.{countAnswer}
 use Rattle.answers.specs.Expected.{noError}
+use Rattle.answers.proofs.AnswerLaws.{no-error-is}
 use Rattle.agreement.specs.CallsAgree.{countCall, partsOf, SplitDates}
 use Rattle.agreement.proofs.Dates.{low, high, year-from, year-to}
 
@@ -37,9 +38,9 @@ module _ (market : ℕ) (known : market ≤ 4) where
   -- The call gives no error where the start is not before 2020 and the end not after 2030.
   pub counted : (start end : Date) → isDateOf start ≡ true → isDateOf end ≡ true → low ≤ number start → number end ≤ high
       → countCall market start end ≡ noError (countTradingDays (isTradingDay market) (number start) (number end))
-  unfolding countAnswer
   counted start end p q l u =
       ap countAnswer (count-of-dates market (start .year) (start .month) (start .day) (end .year) (end .month) (end .day) known p q (year-from start p l) (year-to end q u))
+      ∙ no-error-is (countTradingDays (isTradingDay market) (number start) (number end))
 
   pub empty-part : (split : Date) → isDateOf split ≡ true → low ≤ number split → number split ≤ suc high → countCall market split (dayBefore split) ≡ noError 0
   empty-part split p l u =

@@ -26,9 +26,9 @@ use Rattle.trading_days.proofs.MonthDayLaws.{month-list}
 use Rattle.buffers.proofs.BufferLaws.{overwrite-start}
 use Rattle.range_calls.specs.RangeCalls.{finalBuffer}
 use Rattle.calendar.proofs.CallLaws.{supported-years}
-use Rattle.error.specs.Errors.{errorFields}
-use Rattle.answers.specs.Answers.{countAnswer}
 use Rattle.range_calls.proofs.MonthLaws.{month-of-years, written-ok, written-error}
+use Rattle.answers.specs.Answers.{countAnswer}
+use Rattle.answers.proofs.AnswerLaws.{no-error-is, too-small-is}
 use Rattle.agreement.specs.CallsAgree.{Month, monthsFrom, Writes, Reads, datesOf, limitToRange}
 
 -- ---- the months in order
@@ -93,17 +93,15 @@ module _ (market : ℕ) (known : market ≤ 4) (y m : ℕ) (year : isSupported y
   bytes = monthList market y m
 
   writes : (buffer : List ℕ) → length bytes ≤ length buffer → Writes market month buffer bytes
-  unfolding countAnswer
   writes buffer fits =
       let ok = month-of-years market y m buffer known year l h ∙ written-ok bytes buffer fits in
-      (ap countAnswer ok, ap (λ (r : CountResult). take (length bytes) (finalBuffer r bytes buffer)) ok ∙ overwrite-start bytes buffer)
+      (ap countAnswer ok ∙ no-error-is (length bytes), ap (λ (r : CountResult). take (length bytes) (finalBuffer r bytes buffer)) ok ∙ overwrite-start bytes buffer)
 
   reads : (buffer : List ℕ) → Reads market month buffer bytes
-  unfolding countAnswer errorFields
   reads buffer =
       ⊎-elim (λ (fits : length bytes ≤ length buffer). inl (writes buffer fits))
       (λ (short : length buffer < length bytes).
-      inr (ap countAnswer (month-of-years market y m buffer known year l h ∙ written-error bytes buffer short), writes))
+      inr (ap countAnswer (month-of-years market y m buffer known year l h ∙ written-error bytes buffer short) ∙ too-small-is (length bytes), writes))
       (order (length bytes) (length buffer))
 
   -- The bytes, as dates, are the trading days of the month.

@@ -17,6 +17,7 @@ use Rattle.ranges.specs.Agreement.{Traversal, Agreement, Tile, listOf}
 use Rattle.ranges.proofs.Lists.{map-reverse}
 use Rattle.ranges.proofs.Items.{every-trading-day}
 use Rattle.ranges.proofs.Months.{joined-days}
+use Rattle.longest_run.specs.MarketAgreement.{longestRun}
 use Rattle.longest_run.proofs.Markets.{bounds, markets-agree}
 use Rattle.answers.specs.Expected.{noError}
 use Rattle.agreement.specs.CallsAgree.{IsRange, tradingDates, Next, Previous, Month, monthsFrom, monthsOf, limitToRange, MonthLists, SplitDates, PartCounts, CallsAgree, AllCallsAgree}
@@ -48,21 +49,21 @@ module _ (market : ℕ) (first last : Date) (known : market ≤ 4) (range : IsRa
   last-high : b ≤ high
   last-high = number-to last (range .last-date) (supported-years (last .year) (range .last-year) .1)
 
-  on-days : Agreement trades 10 firstDay lastDay a b
+  on-days : Agreement trades longestRun firstDay lastDay a b
   on-days = markets-agree market a b known first-low (range .ordered) last-high
 
   on-forward : Traversal (Next market) (λ t. leb (number t) b) (dayBefore first) (tradingDates market first last)
   on-forward =
-      as-dates (NextCall trades 10 lastDay) (Next market) (λ m. leb m b) (next-answer market known 10) _ _
-      (outside-as-dates (NextCall trades 10 lastDay) (Next market) (λ m. leb m b) (next-answer market known 10))
+      as-dates (NextCall trades longestRun lastDay) (Next market) (λ m. leb m b) (next-answer market known longestRun) _ _
+      (outside-as-dates (NextCall trades longestRun lastDay) (Next market) (λ m. leb m b) (next-answer market known longestRun))
       (a - 1) (tradingDays trades a b) (omega (arith, bounds, first-low), omega (arith, bounds, range .ordered, last-high)) (on-days .forward)
 
   on-backward : Traversal (Previous market) (λ t. leb a (number t)) (dayAfter last) (reverse (tradingDates market first last))
   unfolding dateOf
   on-backward =
       subst₂ (Traversal (Previous market) (λ t. leb a (number t))) (ap dayAfter (date-of-number last (last-is .exists))) (map-reverse dateOf (tradingDays trades a b))
-      (as-dates (PreviousCall trades 10 firstDay) (Previous market) (λ m. leb a m) (previous-answer market known 10) _ _
-      (outside-as-dates (PreviousCall trades 10 firstDay) (Previous market) (λ m. leb a m) (previous-answer market known 10))
+      (as-dates (PreviousCall trades longestRun firstDay) (Previous market) (λ m. leb a m) (previous-answer market known longestRun) _ _
+      (outside-as-dates (PreviousCall trades longestRun firstDay) (Previous market) (λ m. leb a m) (previous-answer market known longestRun))
       (suc b) (reverse (tradingDays trades a b)) (omega arith, omega (arith, bounds, last-high)) (on-days .backward))
 
   -- ---- the months

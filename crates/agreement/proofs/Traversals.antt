@@ -86,10 +86,10 @@ one-date market most r s t earlier later earlier′ later′ c d = ap (λ (x : T
 
 module _ (market : ℕ) (inside : Date → Bool) where
   one-next : (n m k : Date) → Next market n m → Next market n k → m ≡ k
-  one-next n m k c d = one-date market 10 _ m k _ _ _ _ c d
+  one-next n m k c d = one-date market _ _ m k _ _ _ _ c d
 
   one-previous : (n m k : Date) → Previous market n m → Previous market n k → m ≡ k
-  one-previous n m k c d = one-date market 10 _ m k _ _ _ _ c d
+  one-previous n m k c d = one-date market _ _ m k _ _ _ _ c d
 
   pub forward-unique : (n : Date) (l r : List Date) → Traversal (Next market) inside n l → Traversal (Next market) inside n r → l ≡ r
   forward-unique = traversal-unique (Next market) inside one-next _ (outside-ends (Next market) inside one-next)

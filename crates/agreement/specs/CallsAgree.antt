@@ -14,6 +14,7 @@ use Rattle.markets.specs.Markets.{isTradingDay}
 use Rattle.ranges.specs.Ranges.{daysBetween, filter, Every, tradingDays, sumOf, joined}
 use Rattle.ranges.specs.Steps.{NonTradingBetween}
 use Rattle.ranges.specs.Agreement.{Traversal}
+use Rattle.longest_run.specs.MarketAgreement.{longestRun}
 use Rattle.calendar.specs.Calls.{isSupported}
 use Rattle.range_calls.specs.RangeCalls.{nextTradingDayResult, previousTradingDayResult, tradingDaysInMonthResult, tradingDaysInMonthBuffer, countTradingDaysResult}
 use Rattle.answers.specs.declared.neighbours.TradingDayAnswer.{TradingDayAnswer}
@@ -63,10 +64,10 @@ pub record NeighbourAnswer (market most : ℕ) (result : TradingDayAnswer) (answ
 
 -- at most ten
 abbrev pub Next : ℕ → Date → Date → Type 0
-Next market given answer = NeighbourAnswer market 10 (nextCall market given) answer given answer
+Next market given answer = NeighbourAnswer market longestRun (nextCall market given) answer given answer
 
 abbrev pub Previous : ℕ → Date → Date → Type 0
-Previous market given answer = NeighbourAnswer market 10 (previousCall market given) answer answer given
+Previous market given answer = NeighbourAnswer market longestRun (previousCall market given) answer answer given
 
 -- ---- months
 

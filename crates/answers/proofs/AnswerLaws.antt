@@ -1,17 +1,23 @@
--- What an answer without an error was made from.
+-- The answers with a number, field by field; and what one without an error was made from.
 -- Assumes nothing.
 use Prim.Native.Nat.{ℕ}
 use mathlib.Core.Path.{_≡_, refl, ap}
 use native.Mathlib.Omega.{arith}
 use Rattle.error.specs.declared.CountResult.{CountResult}
+use Rattle.error.specs.declared.CalendarError.the-variants.{BufferTooSmall}
+use Rattle.error.specs.Errors.{errorFields}
 use Rattle.error.proofs.ErrorLaws.{error-number}
 use Rattle.answers.specs.declared.counts.CountAnswer.{CountAnswer}
 use Rattle.answers.specs.Answers.{countAnswer}
-use Rattle.answers.specs.Expected.{noError}
+use Rattle.answers.specs.Expected.{noError, tooSmall}
 
 pub no-error-is : (n : ℕ) → countAnswer (CountResult.Ok n) ≡ noError n
 unfolding countAnswer
 no-error-is n = refl
+
+pub too-small-is : (n : ℕ) → countAnswer (CountResult.Err (BufferTooSmall n)) ≡ tooSmall n
+unfolding countAnswer errorFields
+too-small-is n = refl
 
 pub was-no-error : (r : CountResult) (n : ℕ) → countAnswer r ≡ noError n → r ≡ CountResult.Ok n
 unfolding countAnswer

@@ -12,9 +12,9 @@ use Rattle.ranges.proofs.Lists.{order, between-length, days-mirror}
 use Rattle.ranges.proofs.Search.{find-map, is-first}
 use Rattle.ranges.proofs.Neighbours.{next-none, previous-none}
 
--- No more days are between two days that are no further from each other.
-no-more : (x y d e most : ℕ) → suc x ≡ d → suc y ≡ e → e ≤ d → x ≤ most → y ≤ most
-no-more x y d e most p q h l = omega arith
+-- As many days are between two days that are as far from each other.
+as-many : (x y d e : ℕ) → suc x ≡ d → suc y ≡ e → d ≡ e → x ≡ y
+as-many x y d e p q h = omega arith
 
 module _ (trades : ℕ → Bool) (c : ℕ) where
   abbrev pub mirrored : ℕ → Bool
@@ -45,7 +45,7 @@ module _ (trades : ℕ → Bool) (c : ℕ) where
           s .1,
           record {
             ordered = down;
-            at-most = no-more _ _ _ _ most (between-length (c - n) m up) (between-length (c - m) n down) (omega arith) (s .2 .at-most);
+            at-most = omega (arith, as-many _ _ _ _ (between-length (c - n) m up) (between-length (c - m) n down) (omega arith), s .2 .at-most);
             non-trading = λ i x y. let same : i ≡ c - (c - i) = omega arith in ap trades same ∙ s .2 .non-trading (c - i) (omega arith) (omega arith);
           },
         )
