@@ -1,6 +1,6 @@
 -- The dates of a range, and the days around it.
 -- Assumes nothing.
-use Prim.Native.Nat.{ℕ, zero, suc, _+_, _-_, _*_, _≤_, _<_}
+use Prim.Native.Nat.{ℕ, zero, suc, _-_, _≤_, _<_}
 use mathlib.Core.Path.{_≡_, refl}
 use mathlib.Core.Bool.{Bool, true, false}
 use mathlib.Core.Logic.{inl, inr, ⊎-elim}
@@ -14,7 +14,7 @@ use Rattle.gregorian.proofs.Laws.{DateExists, is-date, day-of-year, number-of-d
 use Rattle.ranges.specs.Ranges.{daysFrom, keep, filter, Every}
 use Rattle.ranges.proofs.Lists.{order}
 use Rattle.ranges.proofs.Items.{every-from, every-filter, every-map}
-use Rattle.agreement.specs.CallsAgree.{Ascending}
+use Rattle.agreement.specs.CallsAgree.{Ascending, monthNumber}
 
 -- the first and the last day of 2020 to 2030
 abbrev pub low : ℕ
@@ -71,8 +71,8 @@ ascending p (suc k) a h = kept (p a) (ascending p k (suc a) (omega arith))
     kept false r = r
 
 -- Months follow the order of dates.
-pub months-ordered : (s t : Date) → DateExists s → DateExists t → number s ≤ number t → 12 * s .year + s .month ≤ 12 * t .year + t .month
-months-ordered s t hs ht h = elim (decLt (12 * t .year + t .month) (12 * s .year + s .month)) [
+pub months-ordered : (s t : Date) → DateExists s → DateExists t → number s ≤ number t → monthNumber (s .year) (s .month) ≤ monthNumber (t .year) (t .month)
+months-ordered s t hs ht h = elim (decLt (monthNumber (t .year) (t .month)) (monthNumber (s .year) (s .month))) [
   | no a ↦ omega arith
   | yes a ↦ elim (decLt (t .year) (s .year)) [
     | yes b ↦ let l = number-before t s ht hs (inl b) in omega (arith, l)

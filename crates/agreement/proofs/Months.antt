@@ -1,6 +1,6 @@
 -- The month calls of a range: what each reads, and the lists joined.
 -- Assumes nothing.
-use Prim.Native.Nat.{ℕ, zero, suc, _+_, _*_, _≤_, _<_}
+use Prim.Native.Nat.{ℕ, zero, suc, _+_, _≤_, _<_}
 use mathlib.Core.Path.{_≡_, refl, sym, ap, ap₂, _∙_, subst}
 use mathlib.Core.Bool.{Bool, true, false, cond, _&&_}
 use mathlib.Core.Logic.{inl, inr, ⊎-elim}
@@ -29,20 +29,20 @@ use Rattle.calendar.proofs.CallLaws.{supported-years}
 use Rattle.range_calls.proofs.MonthLaws.{month-of-years, written-ok, written-error}
 use Rattle.answers.specs.Answers.{countAnswer}
 use Rattle.answers.proofs.AnswerLaws.{no-error-is, too-small-is}
-use Rattle.agreement.specs.CallsAgree.{Month, monthsFrom, Writes, Reads, datesOf, limitToRange}
+use Rattle.agreement.specs.CallsAgree.{Month, monthNumber, monthsFrom, Writes, Reads, datesOf, limitToRange}
 
 -- ---- the months in order
 
--- The month after is month 1 to 12 of a year, and one on in the order of months.
-next-month : (y m : ℕ) → 1 ≤ m → m ≤ 12 → (12 * nextYear y m + nextMonth m ≡ suc (12 * y + m)) × (1 ≤ nextMonth m) × (nextMonth m ≤ 12)
+-- The month after is month 1 to 12 of a year, and has the next number.
+next-month : (y m : ℕ) → 1 ≤ m → m ≤ 12 → (monthNumber (nextYear y m) (nextMonth m) ≡ suc (monthNumber y m)) × (1 ≤ nextMonth m) × (nextMonth m ≤ 12)
 next-month y m l h = by (eqb m 12) refl
   where
-    by : (t : Bool) → eqb m 12 ≡ t → (12 * cond t (y + 1) y + cond t 1 (m + 1) ≡ suc (12 * y + m)) × (1 ≤ cond t 1 (m + 1)) × (cond t 1 (m + 1) ≤ 12)
+    by : (t : Bool) → eqb m 12 ≡ t → (monthNumber (cond t (y + 1) y) (cond t 1 (m + 1)) ≡ suc (monthNumber y m)) × (1 ≤ cond t 1 (m + 1)) × (cond t 1 (m + 1) ≤ 12)
     by true e = let q = eqb-true m 12 e in (omega arith, omega arith, omega arith)
     by false e = let q = eqb-false m 12 e in (omega arith, omega arith, omega arith)
 
--- Two months at one place in the order are one month.
-same-month : (y m y′ m′ : ℕ) → 1 ≤ m → m ≤ 12 → 1 ≤ m′ → m′ ≤ 12 → 12 * y + m ≡ 12 * y′ + m′ → (y ≡ y′) × (m ≡ m′)
+-- Two months of one number are one month.
+same-month : (y m y′ m′ : ℕ) → 1 ≤ m → m ≤ 12 → 1 ≤ m′ → m′ ≤ 12 → monthNumber y m ≡ monthNumber y′ m′ → (y ≡ y′) × (m ≡ m′)
 same-month y m y′ m′ l h l′ h′ e = (omega arith, omega arith)
 
 -- the first and the last day of a month
@@ -59,7 +59,7 @@ unfolding dayNumber
 number-from-day y m d = omega arith
 
 -- The months from one to another tile the days from the first of the one to the last of the other.
-pub tile : (k y m y′ m′ : ℕ) → 1 ≤ y → 1 ≤ m → m ≤ 12 → 1 ≤ m′ → m′ ≤ 12 → y′ ≤ lastYear → 12 * y + m + k ≡ 12 * y′ + m′
+pub tile : (k y m y′ m′ : ℕ) → 1 ≤ y → 1 ≤ m → m ≤ 12 → 1 ≤ m′ → m′ ≤ 12 → y′ ≤ lastYear → monthNumber y m + k ≡ monthNumber y′ m′
     → Tile (dayNumber y m 1) (map monthRange (monthsFrom y m (suc k))) (dayNumber y′ m′ (monthLength y′ m′))
 tile zero y m y′ m′ o l h l′ h′ u e =
     let same = same-month y m y′ m′ l h l′ h′ (omega arith) in
@@ -119,9 +119,9 @@ module _ (market : ℕ) (known : market ≤ 4) (y m : ℕ) (year : isSupported y
 
 -- ---- the months of a range
 
--- the months from January 2020 to December 2030, by their places in the order
+-- the months from January 2020 to December 2030, by their numbers
 abbrev pub MonthsInYears : ℕ → ℕ → ℕ → Type 0
-MonthsInYears y m k = (12 * 2020 < 12 * y + m) × (12 * y + m + k ≤ suc (12 * 2030 + 12))
+MonthsInYears y m k = (monthNumber 2020 1 ≤ monthNumber y m) × (monthNumber y m + k ≤ suc (monthNumber 2030 12))
 
 module _ (market : ℕ) (known : market ≤ 4) where
   supported : (y m k : ℕ) → 1 ≤ m → m ≤ 12 → MonthsInYears y m (suc k) → isSupported y ≡ true

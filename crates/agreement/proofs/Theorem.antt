@@ -1,6 +1,6 @@
 -- The calls agree on every date range of 2020 to 2030.
 -- Assumes nothing.
-use Prim.Native.Nat.{ℕ, suc, _+_, _-_, _*_, _≤_}
+use Prim.Native.Nat.{ℕ, suc, _-_, _≤_}
 use mathlib.Core.Path.{_≡_, sym, ap, _∙_, subst, subst₂}
 use mathlib.Core.Bool.{Bool}
 use mathlib.Core.List.{List, map, reverse}
@@ -20,7 +20,7 @@ use Rattle.ranges.proofs.Months.{joined-days}
 use Rattle.longest_run.specs.MarketAgreement.{longestRun}
 use Rattle.longest_run.proofs.Markets.{bounds, markets-agree}
 use Rattle.answers.specs.Expected.{noError}
-use Rattle.agreement.specs.CallsAgree.{IsRange, tradingDates, Next, Previous, Month, monthsFrom, monthsOf, limitToRange, MonthLists, SplitDates, PartCounts, CallsAgree, AllCallsAgree}
+use Rattle.agreement.specs.CallsAgree.{IsRange, tradingDates, Next, Previous, Month, monthNumber, monthsFrom, monthsOf, limitToRange, MonthLists, SplitDates, PartCounts, CallsAgree, AllCallsAgree}
 use Rattle.calendar.proofs.CallLaws.{supported-years}
 use Rattle.agreement.proofs.Dates.{low, high, number-from, number-to, ascending, months-ordered}
 use Rattle.agreement.proofs.Traversals.{as-dates, outside-as-dates, next-answer, previous-answer}
@@ -70,9 +70,9 @@ module _ (market : ℕ) (first last : Date) (known : market ≤ 4) (range : IsRa
 
   -- how many months the last date's is after the first date's
   abbrev later : ℕ
-  later = 12 * last .year + last .month - (12 * first .year + first .month)
+  later = monthNumber (last .year) (last .month) - monthNumber (first .year) (first .month)
 
-  month-count : suc (12 * last .year + last .month) - (12 * first .year + first .month) ≡ suc later
+  month-count : suc (monthNumber (last .year) (last .month)) - monthNumber (first .year) (first .month) ≡ suc later
   month-count = omega (arith, months-ordered first last (first-is .exists) (last-is .exists) (range .ordered))
 
   -- from the first day of the first month to the last day of the last
@@ -90,7 +90,7 @@ module _ (market : ℕ) (first last : Date) (known : market ≤ 4) (range : IsRa
       (tile later (first .year) (first .month) (last .year) (last .month) (f .y-low) (f .m-low) (f .m-high) (l .m-low) (l .m-high) (last-is .y-high)
       (omega (arith, months-ordered first last f l (range .ordered))))
 
-  in-years : MonthsInYears (first .year) (first .month) (suc (12 * last .year + last .month) - (12 * first .year + first .month))
+  in-years : MonthsInYears (first .year) (first .month) (suc (monthNumber (last .year) (last .month)) - monthNumber (first .year) (first .month))
   in-years =
       let f = first-is .exists in
       let l = last-is .exists in

@@ -2,7 +2,7 @@
 -- Assumes nothing.
 use Prim.Native.Nat.{ℕ, suc, _-_, _≤_}
 use mathlib.Core.Path.{_≡_, refl, sym, ap, ap₂, _∙_, subst, subst₂}
-use mathlib.Core.Bool.{Bool, true}
+use mathlib.Core.Bool.{Bool, true, false, cond, not, _&&_, _||_}
 use mathlib.Core.List.{List, map}
 use lib.ListN.{length}
 use native.Mathlib.Omega.{arith}
@@ -19,11 +19,12 @@ use Rattle.ranges.specs.Agreement.{TraversalTo, EndsOutside, Traversal}
 use Rattle.ranges.proofs.Lists.{between-length}
 use Rattle.ranges.proofs.StepLaws.{next-in-years, previous-in-years}
 use Rattle.ranges.proofs.Traversals.{traversal-map, outside-map, traversal-unique, outside-ends}
+use Rattle.calendar.specs.Calls.{isSupported}
 use Rattle.range_calls.specs.RangeCalls.{distanceOf, tradingDay, tradingDayResult, neighbourResult}
 use Rattle.range_calls.proofs.RangeLaws.{to-later, to-earlier, neighbour-of-date}
 use Rattle.answers.specs.declared.neighbours.TradingDayAnswer.{TradingDayAnswer}
 use Rattle.answers.specs.Answers.{flagOf, tradingDayAnswer}
-use Rattle.agreement.specs.CallsAgree.{nextCall, previousCall, NeighbourAnswer, Next, Previous}
+use Rattle.agreement.specs.CallsAgree.{markOf, nextCall, previousCall, NeighbourAnswer, Next, Previous}
 
 -- a day of years 1 to 9999
 abbrev pub IsDay : ℕ → Type 0
@@ -41,25 +42,40 @@ module _ (C : ℕ → ℕ → Type 0) (D : Date → Date → Type 0) (inside : �
   pub outside-as-dates : (n : ℕ) → IsDay n → EndsOutside C inside n → EndsOutside D (λ t. inside (number t)) (dateOf n)
   outside-as-dates = outside-map dateOf C D inside (λ t. inside (number t)) IsDay dated
 
+-- the mark of a call on the date s that answers t
+abbrev mark : Date → Date → ℕ
+mark s t = flagOf (not (isSupported (s .year)) || not (isSupported (t .year)))
+
+-- It is the same in either order.
+mark-is : (s t : Date) → (mark s t ≡ markOf s t) × (mark s t ≡ markOf t s)
+unfolding flagOf
+mark-is s t = by (isSupported (s .year)) (isSupported (t .year))
+  where
+    by : (p q : Bool) → (flagOf (not p || not q) ≡ cond (p && q) 0 1) × (flagOf (not p || not q) ≡ cond (q && p) 0 1)
+    by true true = (refl, refl)
+    by true false = (refl, refl)
+    by false true = (refl, refl)
+    by false false = (refl, refl)
+
 module _ (market : ℕ) (known : market ≤ 4) (most : ℕ) where
   -- Where the neighbour of day n is day m, the call on the date of n answers the date of m.
   answered : (neighbour : ℕ → OptionalDay) (n m earlier later : ℕ) → IsDay n → IsDay m → 1 ≤ earlier → neighbour n ≡ Day m → isTradingDay market m ≡ true
-      → distanceOf n m ≡ later - earlier → NonTradingBetween (isTradingDay market) most earlier later
+      → distanceOf n m ≡ later - earlier → mark (dateOf n) (dateOf m) ≡ markOf (dateOf earlier) (dateOf later) → NonTradingBetween (isTradingDay market) most earlier later
       → NeighbourAnswer market most (tradingDayAnswer (neighbourResult neighbour market (dateOf n .year) (dateOf n .month) (dateOf n .day))) (dateOf m) (dateOf earlier) (dateOf later)
   unfolding tradingDayResult tradingDay tradingDayAnswer
-  answered neighbour n m earlier later k i o q t d b =
+  answered neighbour n m earlier later k i o q t d s b =
       let up = b .ordered in
       let e = number-of-date earlier o in
       let f = number-of-date later (omega arith) in
       let day = tradingDay (dateOf n .year) n m in
       record {
         distance = day .distance;
-        outside = flagOf (day .outside);
         no-error =
             ap tradingDayAnswer
             (neighbour-of-date neighbour market (dateOf n .year) (dateOf n .month) (dateOf n .day) known (date-of-is n (k .0) (k .1))
             ∙ ap (λ (i : ℕ). tradingDayResult (dateOf n .year) i (neighbour i)) (number-of-date n (k .0))
-            ∙ ap (tradingDayResult (dateOf n .year) n) q);
+            ∙ ap (tradingDayResult (dateOf n .year) n) q)
+            ∙ ap {B = TradingDayAnswer} (λ (x : ℕ). record { error = 0; date = dateOf m; distance = day .distance; outside = x }) s;
         is-date = date-of-is m (i .0) (i .1);
         trading = ap (isTradingDay market) (number-of-date m (i .0)) ∙ t;
         between = subst₂ (NonTradingBetween (isTradingDay market) most) (sym e) (sym f) b;
@@ -71,14 +87,14 @@ module _ (market : ℕ) (known : market ≤ 4) (most : ℕ) where
       → IsDay m × NeighbourAnswer market most (nextCall market (dateOf n)) (dateOf m) (dateOf n) (dateOf m)
   next-answer n m k c =
       let i = subst InYears (c .0) (next-in-years (isTradingDay market) n) in
-      (i, answered (nextTradingDay (isTradingDay market) lastDay) n m n m k i (k .0) (c .0) (c .1) (sym (to-later n m (m - n) (c .2 .ordered) refl)) (c .2))
+      (i, answered (nextTradingDay (isTradingDay market) lastDay) n m n m k i (k .0) (c .0) (c .1) (sym (to-later n m (m - n) (c .2 .ordered) refl)) (mark-is (dateOf n) (dateOf m) .0) (c .2))
 
   pub previous-answer : (n m : ℕ) → IsDay n → PreviousCall (isTradingDay market) most firstDay n m
       → IsDay m × NeighbourAnswer market most (previousCall market (dateOf n)) (dateOf m) (dateOf m) (dateOf n)
   previous-answer n m k c =
       let i = subst InYears (c .0) (previous-in-years (isTradingDay market) n (k .1)) in
       let down = c .2 .ordered in
-      (i, answered (previousTradingDay (isTradingDay market) firstDay) n m m n k i (i .0) (c .0) (c .1) (sym (to-earlier n m (n - m) (omega arith) refl)) (c .2))
+      (i, answered (previousTradingDay (isTradingDay market) firstDay) n m m n k i (i .0) (c .0) (c .1) (sym (to-earlier n m (n - m) (omega arith) refl)) (mark-is (dateOf n) (dateOf m) .1) (c .2))
 
 -- A call has one answer, and so the traversal lists no other dates.
 one-date : (market most : ℕ) (r : TradingDayAnswer) (s t earlier later earlier′ later′ : Date) → NeighbourAnswer market most r s earlier later → NeighbourAnswer market most r t earlier′ later′ → s ≡ t

@@ -2,7 +2,7 @@
 -- the answers are the structs that the exported calls return, by the definitions that their contracts cite. Assumes nothing.
 use Prim.Native.Nat.{ℕ, zero, suc, _+_, _-_, _*_, _≤_, _<_}
 use mathlib.Core.Path.{_≡_}
-use mathlib.Core.Bool.{true, _&&_}
+use mathlib.Core.Bool.{true, cond, _&&_}
 use mathlib.Core.Logic.{_⊎_}
 use mathlib.Core.List.{List, [], _∷_, map, reverse}
 use lib.Dec.{leb}
@@ -49,20 +49,23 @@ nextCall market t = tradingDayAnswer (nextTradingDayResult market (t .year) (t .
 abbrev pub previousCall : ℕ → Date → TradingDayAnswer
 previousCall market t = tradingDayAnswer (previousTradingDayResult market (t .year) (t .month) (t .day))
 
+-- [outside]: the mark of a call, set if the date given or the answer is outside 2020 to 2030
+abbrev pub markOf : Date → Date → ℕ
+markOf s t = cond (isSupported (s .year) && isSupported (t .year)) 0 1
+
 -- [agreement-call], [agreement-no-error]: a call ("step") gives no error and answers a date that trades. `earlier` and `later` are the
 -- date given and the answer, the earlier one first. At most so many days are strictly between them, and none of these trades; the
 -- distance is one more than their number, and it is the number of days from the one to the other.
 pub record NeighbourAnswer (market most : ℕ) (result : TradingDayAnswer) (answer earlier later : Date) : Type 0 where
   pub distance : ℕ
-  pub outside : ℕ
-  pub no-error : result ≡ record { error = 0; date = answer; distance = distance; outside = outside }
+  pub no-error : result ≡ record { error = 0; date = answer; distance = distance; outside = markOf earlier later }
   pub is-date : isDateOf answer ≡ true
   pub trading : isTradingDay market (number answer) ≡ true
   pub between : NonTradingBetween (isTradingDay market) most (number earlier) (number later)
   pub one-more : distance ≡ suc (length (daysBetween (number earlier) (number later)))
   pub difference : number earlier + distance ≡ number later
 
--- at most ten
+-- the next and the previous call on the date given; they pass at most ten days
 abbrev pub Next : ℕ → Date → Date → Type 0
 Next market given answer = NeighbourAnswer market longestRun (nextCall market given) answer given answer
 
@@ -75,7 +78,7 @@ pub record Month : Type 0 where
   pub year : ℕ
   pub month : ℕ
 
--- months in order, one after the other, as numbers
+-- the number of a month, one more than that of the month before
 abbrev pub monthNumber : ℕ → ℕ → ℕ
 monthNumber y m = 12 * y + m
 
