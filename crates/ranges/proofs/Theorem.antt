@@ -9,7 +9,7 @@ use native.Mathlib.Omega.{arith}
 use borrow.Author.Tests.{leb-true}
 use Rattle.ranges.specs.Ranges.{tradingDays, nextTradingDay, previousTradingDay}
 use Rattle.ranges.specs.Steps.{NextCall, PreviousCall, ShortRuns, ShortSteps}
-use Rattle.ranges.specs.Agreement.{TraversalTo, EndsOutsideOrNone, Traversal, AgreementTo, Agree, Agreement, AgreeInside}
+use Rattle.ranges.specs.Agreement.{TraversalTo, Traversal, AgreementTo, AgreementToEnds, Agreement, Agree, AgreeInside}
 use Rattle.ranges.proofs.Search.{no-day}
 use Rattle.ranges.proofs.StepLaws.{steps-are-short, next-further, previous-further}
 use Rattle.ranges.proofs.Traversals.{traversal-of, every-call-answers, forward, backward}
@@ -41,8 +41,7 @@ agree trades most first last a b o runs l h z =
 -- Where runs are short on further days than the range, every call answers; and one that may look at more days answers the same.
 module _ (trades : ℕ → Bool) (most first last low high a b : ℕ) (o : 1 ≤ first) (runs : ShortRuns trades most low high) (f : first ≤ low) (z : high ≤ last)
     (p : low + suc most ≤ a) (h : a ≤ b) (q : b + suc most ≤ high) where
-  on-all : AgreementTo trades most low high a b (EndsOutsideOrNone (NextCall trades most high) (nextTradingDay trades high) (λ m. leb m b))
-      (EndsOutsideOrNone (PreviousCall trades most low) (previousTradingDay trades low) (λ m. leb a m))
+  on-all : AgreementToEnds trades most low high a b
   on-all = agree trades most low high a b (omega arith) runs (omega arith) h (omega arith)
 
   steps : ShortSteps trades most low high

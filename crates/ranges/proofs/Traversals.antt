@@ -104,21 +104,27 @@ module _ (trades : ℕ → Bool) (most first last : ℕ) (o : 1 ≤ first) (runs
   abbrev c : ℕ
   c = suc b
 
+  -- the calls, and how the traversal ends, in the mirror and out of it
   abbrev In : ℕ → ℕ → Type 0
   In = NextCall (mirrored trades c) most (c - first)
 
   abbrev Out : ℕ → ℕ → Type 0
   Out = PreviousCall trades most first
 
-  mirror-runs-to-b : ShortRuns (mirrored trades c) most 1 (c - first)
-  mirror-runs-to-b =
+  abbrev InEnds : ℕ → Type 0
+  InEnds = EndsOutsideOrNone In (nextTradingDay (mirrored trades c) (c - first)) (λ m. leb m (c - a))
+
+  abbrev OutEnds : ℕ → Type 0
+  OutEnds = EndsOutsideOrNone Out (previousTradingDay trades first) (λ m. leb a m)
+
+  runs-in : ShortRuns (mirrored trades c) most 1 (c - first)
+  runs-in =
       let one : c - b ≡ 1 = omega arith in
       subst (λ (x : ℕ). ShortRuns (mirrored trades c) most x (c - first)) one
       (mirror-runs trades c most first b (omega arith) (λ n x y. runs n x (omega arith)))
 
-  -- a call of the mirrored traversal, and how it ends
-  out-call : (n m : ℕ) → n ≤ c - a → In n m → Out (c - n) (c - m) × (leb a (c - m) ≡ leb m (c - a)) × (leb m (c - a) ≡ true → m ≤ c - a)
-  out-call n m k s =
+  call-out : (n m : ℕ) → n ≤ c - a → In n m → Out (c - n) (c - m) × (leb a (c - m) ≡ leb m (c - a)) × (leb m (c - a) ≡ true → m ≤ c - a)
+  call-out n m k s =
       let same : c - (c - n) ≡ n = omega arith in (
         mirror-call trades c first o most (c - n) m (omega arith) (subst (λ (i : ℕ). In i m) (sym same) s),
         ⊎-elim (λ (t : m ≤ c - a). le-leb a (c - m) (omega arith) ∙ sym (le-leb m (c - a) t))
@@ -126,25 +132,22 @@ module _ (trades : ℕ → Bool) (most first last : ℕ) (o : 1 ≤ first) (runs
         leb-true m (c - a),
       )
 
-  out-ends : (n : ℕ) → n ≤ c - a → EndsOutsideOrNone In (nextTradingDay (mirrored trades c) (c - first)) (λ m. leb m (c - a)) n
-      → EndsOutsideOrNone Out (previousTradingDay trades first) (λ m. leb a m) (c - n)
-  out-ends n k =
-      ⊎-elim (λ t. inl (outside-map (λ i. c - i) In Out (λ m. leb m (c - a)) (λ m. leb a m) (λ n. n ≤ c - a) out-call n k t))
+  ends-out : (n : ℕ) → n ≤ c - a → InEnds n → OutEnds (c - n)
+  ends-out n k =
+      ⊎-elim (λ t. inl (outside-map (λ i. c - i) In Out (λ m. leb m (c - a)) (λ m. leb a m) (λ n. n ≤ c - a) call-out n k t))
       (λ e.
       let same : c - (c - n) ≡ n = omega arith in
       inr (previous-mirror trades c first o (c - n) (omega arith)
       ∙ ap (λ (i : ℕ). mapDay (λ j. c - j) (nextTradingDay (mirrored trades c) (c - first) i)) same
       ∙ ap (mapDay (λ j. c - j)) e))
 
-  pub backward : TraversalTo Out (λ m. leb a m) (EndsOutsideOrNone Out (previousTradingDay trades first) (λ m. leb a m)) (suc b) (reverse (tradingDays trades a b))
+  pub backward : TraversalTo Out (λ m. leb a m) OutEnds (suc b) (reverse (tradingDays trades a b))
   backward =
       let start : c - 0 ≡ suc b = omega arith in
       let from : c - b ≡ 1 = omega arith in
       let list : reverse (tradingDays trades a b) ≡ map (λ i. c - i) (tradingDays (mirrored trades c) 1 (c - a)) =
       trading-mirror trades a b c (omega arith) (omega arith) (omega arith) ∙ ap (λ (x : ℕ). map (λ i. c - i) (tradingDays (mirrored trades c) x (c - a))) from in
-      subst₂ (TraversalTo Out (λ m. leb a m) (EndsOutsideOrNone Out (previousTradingDay trades first) (λ m. leb a m))) start (sym list)
-      (traversal-map (λ i. c - i) In Out (λ m. leb m (c - a)) (λ m. leb a m) (λ n. n ≤ c - a) out-call
-      (EndsOutsideOrNone In (nextTradingDay (mirrored trades c) (c - first)) (λ m. leb m (c - a)))
-      (EndsOutsideOrNone Out (previousTradingDay trades first) (λ m. leb a m)) out-ends
+      subst₂ (TraversalTo Out (λ m. leb a m) OutEnds) start (sym list)
+      (traversal-map (λ i. c - i) In Out (λ m. leb m (c - a)) (λ m. leb a m) (λ n. n ≤ c - a) call-out InEnds OutEnds ends-out
       0 (tradingDays (mirrored trades c) 1 (c - a)) (omega arith)
-      (forward (mirrored trades c) most 1 (c - first) mirror-runs-to-b (c - a) (omega arith) 1 (omega arith) (omega arith) (omega arith)))
+      (forward (mirrored trades c) most 1 (c - first) runs-in (c - a) (omega arith) 1 (omega arith) (omega arith) (omega arith)))

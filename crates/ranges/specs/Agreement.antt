@@ -72,17 +72,21 @@ pub record AgreementTo (trades : ℕ → Bool) (most first last a b : ℕ) (Next
   pub empty-part : (c : ℕ) → a ≤ c → countTradingDays trades c (c - 1) ≡ 0
   pub months : (low high : ℕ) (rs : List DateRange) → Tile low rs high → low ≤ a → b ≤ high → limitTo a b (joined (listOf trades) rs) ≡ tradingDays trades a b
 
--- The theorem: where runs are short, on every range, one that reaches `first` or `last` too. There a traversal may end by none.
-abbrev pub Agree : (ℕ → Bool) → ℕ → ℕ → ℕ → Type 0
-Agree trades most first last =
-    (a b : ℕ) → 1 ≤ first → ShortRuns trades most first last → first ≤ a → a ≤ b → b ≤ last
-    → AgreementTo trades most first last a b (EndsOutsideOrNone (NextCall trades most last) (nextTradingDay trades last) (λ m. leb m b))
+-- A traversal may end by none, on the first or the last of all days.
+abbrev pub AgreementToEnds : (ℕ → Bool) → ℕ → ℕ → ℕ → ℕ → ℕ → Type 0
+AgreementToEnds trades most first last a b =
+    AgreementTo trades most first last a b (EndsOutsideOrNone (NextCall trades most last) (nextTradingDay trades last) (λ m. leb m b))
     (EndsOutsideOrNone (PreviousCall trades most first) (previousTradingDay trades first) (λ m. leb a m))
 
--- every call answers
+-- Every call answers.
 abbrev pub Agreement : (ℕ → Bool) → ℕ → ℕ → ℕ → ℕ → ℕ → Type 0
 Agreement trades most first last a b =
     AgreementTo trades most first last a b (EndsOutside (NextCall trades most last) (λ m. leb m b)) (EndsOutside (PreviousCall trades most first) (λ m. leb a m))
+
+-- The theorem: where runs are short, on every range of all days, one that starts on the first or ends on the last of them too.
+abbrev pub Agree : (ℕ → Bool) → ℕ → ℕ → ℕ → Type 0
+Agree trades most first last =
+    (a b : ℕ) → 1 ≤ first → ShortRuns trades most first last → first ≤ a → a ≤ b → b ≤ last → AgreementToEnds trades most first last a b
 
 -- What follows where runs are short from `low` to `high`, which reach further than the range by `most + 1` days on each side, whatever
 -- the runs are before and after.
