@@ -20,8 +20,8 @@ module _ (trades : ℕ → Bool) (c : ℕ) where
   abbrev pub mirrored : ℕ → Bool
   mirrored i = trades (c - i)
 
-  twice : (i : ℕ) (t : Bool) → i ≤ c → trades i ≡ t → mirrored (c - i) ≡ t
-  twice i t h e = let same : c - (c - i) ≡ i = omega arith in ap trades same ∙ e
+  trades-mirrored : (i : ℕ) → i ≤ c → trades i ≡ true → mirrored (c - i) ≡ true
+  trades-mirrored i h e = let same : c - (c - i) ≡ i = omega arith in ap trades same ∙ e
 
   module _ (first : ℕ) (o : 1 ≤ first) where
     pub previous-mirror : (n : ℕ) → n ≤ c → previousTradingDay trades first n ≡ mapDay (λ i. c - i) (nextTradingDay mirrored (c - first) (c - n))
@@ -54,4 +54,4 @@ module _ (trades : ℕ → Bool) (c : ℕ) where
   mirror-runs most first last h runs n l u =
       let r = runs (c - (n + most)) (omega arith) (omega arith) in
       let w : ℕ = r .0 in
-      (c - w, omega (arith, r .2), omega (arith, r .1), twice w true (omega (arith, r .2)) (r .3))
+      (c - w, omega (arith, r .2), omega (arith, r .1), trades-mirrored w (omega (arith, r .2)) (r .3))
