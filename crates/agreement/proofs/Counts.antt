@@ -16,8 +16,8 @@ use Rattle.longest_run.proofs.Markets.{bounds}
 use Rattle.range_calls.proofs.CountLaws.{count-of-dates}
 use Rattle.answers.specs.declared.counts.CountAnswer.{CountAnswer}
 use Rattle.answers.specs.Answers.{countAnswer}
-use Rattle.answers.specs.Expected.{noError}
-use Rattle.answers.proofs.AnswerLaws.{no-error-is}
+use Rattle.answers.specs.Expected.{counted}
+use Rattle.answers.proofs.AnswerLaws.{counted-is}
 use Rattle.agreement.specs.CallsAgree.{countCall, partsOf, SplitDates}
 use Rattle.agreement.proofs.Dates.{low, high, year-from, year-to}
 
@@ -36,24 +36,24 @@ module _ (t : Date) (l : low ≤ number t) (h : number t ≤ suc high) where
 
 module _ (market : ℕ) (known : market ≤ 4) where
   -- The call gives no error where the start is not before 2020 and the end not after 2030.
-  pub counted : (start end : Date) → isDateOf start ≡ true → isDateOf end ≡ true → low ≤ number start → number end ≤ high
-      → countCall market start end ≡ noError (countTradingDays (isTradingDay market) (number start) (number end))
-  counted start end p q l u =
+  pub count-answers : (start end : Date) → isDateOf start ≡ true → isDateOf end ≡ true → low ≤ number start → number end ≤ high
+      → countCall market start end ≡ counted (countTradingDays (isTradingDay market) (number start) (number end))
+  count-answers start end p q l u =
       ap countAnswer (count-of-dates market (start .year) (start .month) (start .day) (end .year) (end .month) (end .day) known p q (year-from start p l) (year-to end q u))
-      ∙ no-error-is (countTradingDays (isTradingDay market) (number start) (number end))
+      ∙ counted-is (countTradingDays (isTradingDay market) (number start) (number end))
 
-  pub empty-part : (split : Date) → isDateOf split ≡ true → low ≤ number split → number split ≤ suc high → countCall market split (dayBefore split) ≡ noError 0
+  pub empty-part : (split : Date) → isDateOf split ≡ true → low ≤ number split → number split ≤ suc high → countCall market split (dayBefore split) ≡ counted 0
   empty-part split p l u =
       let e = number-of-day-before split l u in
-      counted split (dayBefore split) p (day-before-is-date split l u) l (omega (arith, e))
-      ∙ ap noError (count-none (isTradingDay market) (number split) (number (dayBefore split)) (omega (arith, bounds, e)))
+      count-answers split (dayBefore split) p (day-before-is-date split l u) l (omega (arith, e))
+      ∙ ap counted (count-none (isTradingDay market) (number split) (number (dayBefore split)) (omega (arith, bounds, e)))
 
   -- The calls on the parts answer the counts of the parts, and these add up as on day numbers.
   pub part-counts : (first : Date) (splits : List Date) (last : Date) → isDateOf first ≡ true → low ≤ number first → isDateOf last ≡ true → number last ≤ high → SplitDates first splits last
-      → (counts : List ℕ) × (map (λ p. countCall market (p .start) (p .end)) (partsOf first splits last) ≡ map noError counts)
+      → (counts : List ℕ) × (map (λ p. countCall market (p .start) (p .end)) (partsOf first splits last) ≡ map counted counts)
       × (sumOf (λ n. n) counts ≡ sumOf (countOf (isTradingDay market)) (parts (number first) (map number splits) (number last)))
   part-counts first [] last p l q u s =
-      (countTradingDays (isTradingDay market) (number first) (number last) ∷ [], ap (λ (a : CountAnswer). a ∷ []) (counted first last p q l u), refl)
+      (countTradingDays (isTradingDay market) (number first) (number last) ∷ [], ap (λ (a : CountAnswer). a ∷ []) (count-answers first last p q l u), refl)
   part-counts first (split ∷ splits) last p l q u s =
       let order = splits-order (number split) (map number splits) (number last) (splits-of split splits last (s .2)) in
       let from : low ≤ number split = omega (arith, s .1) in
@@ -61,6 +61,6 @@ module _ (market : ℕ) (known : market ≤ 4) where
       let e = number-of-day-before split from to in
       let rest = part-counts split splits last (s .0) from q u (s .2) in (
         countTradingDays (isTradingDay market) (number first) (number (dayBefore split)) ∷ rest .0,
-        ap₂ (λ (a : CountAnswer) (r : List CountAnswer). a ∷ r) (counted first (dayBefore split) p (day-before-is-date split from to) l (omega (arith, e))) (rest .1),
+        ap₂ (λ (a : CountAnswer) (r : List CountAnswer). a ∷ r) (count-answers first (dayBefore split) p (day-before-is-date split from to) l (omega (arith, e))) (rest .1),
         ap₂ (λ (i j : ℕ). countTradingDays (isTradingDay market) (number first) i + j) e (rest .2),
       )

@@ -10,15 +10,15 @@ use lib.ListN.{length, take}
 use native.Mathlib.Omega.{arith}
 use borrow.Author.Tests.{eqb-true, eqb-false, le-leb}
 use Rattle.gregorian.specs.declared.Date.{Date}
-use Rattle.gregorian.specs.Calendar.{monthLength, dayNumber, lastYear, isDate, date, number, dateOf}
-use Rattle.gregorian.proofs.Laws.{date-by, month-low, date-of-number, number-of-date}
+use Rattle.gregorian.specs.Calendar.{monthLength, dayNumber, lastYear, lastDay, isDate, isDateOf, date, number, dateOf}
+use Rattle.gregorian.proofs.Laws.{date-by, month-low, date-of-number, number-of-date, date-of-is}
 use Rattle.utils.specs.Weekday.{nextMonth, nextYear}
 use Rattle.utils.proofs.WeekdayLaws.{month-end}
 use Rattle.markets.specs.Markets.{isTradingDay}
 use Rattle.ranges.specs.Ranges.{Every, DateRange, joined, limitTo}
 use Rattle.ranges.specs.Agreement.{Tile, listOf}
 use Rattle.ranges.proofs.Lists.{order, filter-map}
-use Rattle.ranges.proofs.Items.{every-each, every-trading-day, map-same, filter-same}
+use Rattle.ranges.proofs.Items.{every-each, every-map, every-trading-day, map-same, filter-same}
 use Rattle.error.specs.declared.CountResult.{CountResult}
 use Rattle.calendar.specs.Calls.{isSupported}
 use Rattle.trading_days.specs.Month.{monthList}
@@ -28,7 +28,7 @@ use Rattle.range_calls.specs.RangeCalls.{finalBuffer}
 use Rattle.calendar.proofs.CallLaws.{supported-years}
 use Rattle.range_calls.proofs.MonthLaws.{month-of-years, written-ok, written-error}
 use Rattle.answers.specs.Answers.{countAnswer}
-use Rattle.answers.proofs.AnswerLaws.{no-error-is, too-small-is}
+use Rattle.answers.proofs.AnswerLaws.{counted-is, too-small-is}
 use Rattle.agreement.specs.CallsAgree.{Month, monthNumber, monthsFrom, Writes, Reads, datesOf, limitToRange}
 
 -- ---- the months in order
@@ -95,7 +95,7 @@ module _ (market : ℕ) (known : market ≤ 4) (y m : ℕ) (year : isSupported y
   writes : (buffer : List ℕ) → length bytes ≤ length buffer → Writes market month buffer bytes
   writes buffer fits =
       let ok = month-of-years market y m buffer known year l h ∙ written-ok bytes buffer fits in
-      (ap countAnswer ok ∙ no-error-is (length bytes), ap (λ (r : CountResult). take (length bytes) (finalBuffer r bytes buffer)) ok ∙ overwrite-start bytes buffer)
+      (ap countAnswer ok ∙ counted-is (length bytes), ap (λ (r : CountResult). take (length bytes) (finalBuffer r bytes buffer)) ok ∙ overwrite-start bytes buffer)
 
   reads : (buffer : List ℕ) → Reads market month buffer bytes
   reads buffer =
@@ -144,6 +144,10 @@ module _ (market : ℕ) (known : market ≤ 4) where
       ap₂ (λ (i j : List Date). i ++ j) (dates market known y m (supported y m k l h r) l h)
       (joined-dates k (nextYear y m) (nextMonth m) (next .1) (next .2) (omega arith, omega arith))
       ∙ sym (map-append dateOf (listOf (isTradingDay market) (monthRange (record { year = y; month = m }))) (joined (listOf (isTradingDay market)) (map monthRange (monthsFrom (nextYear y m) (nextMonth m) k))))
+
+-- The dates of day numbers from 1 to the last are dates.
+pub are-dates : (l : List ℕ) → Every (λ n. (1 ≤ n) × (n ≤ lastDay)) l → Every (λ t. isDateOf t ≡ true) (map dateOf l)
+are-dates l e = every-map _ dateOf l (every-each _ _ (λ n h. date-of-is n (h .0) (h .1)) l e)
 
 -- A list of days limited to a range, as dates and as day numbers.
 pub limited-dates : (first last : Date) (l : List ℕ) → Every (λ n. 1 ≤ n) l → limitToRange first last (map dateOf l) ≡ map dateOf (limitTo (number first) (number last) l)

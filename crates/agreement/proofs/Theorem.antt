@@ -2,30 +2,30 @@
 -- Assumes nothing.
 use Prim.Native.Nat.{ℕ, suc, _-_, _≤_}
 use mathlib.Core.Path.{_≡_, sym, ap, _∙_, subst, subst₂}
-use mathlib.Core.Bool.{Bool}
+use mathlib.Core.Bool.{Bool, true}
 use mathlib.Core.List.{List, map, reverse}
 use lib.Dec.{leb}
 use lib.ListN.{length, length-map}
 use native.Mathlib.Omega.{arith}
 use Rattle.gregorian.specs.declared.Date.{Date}
-use Rattle.gregorian.specs.Calendar.{monthLength, dayNumber, firstDay, lastDay, IsDate, number, dayAfter, dateOf, dayBefore}
-use Rattle.gregorian.proofs.Laws.{is-date, date-of-number}
+use Rattle.gregorian.specs.Calendar.{monthLength, dayNumber, firstDay, lastDay, IsDate, isDateOf, number, dayAfter, dateOf, dayBefore}
+use Rattle.gregorian.proofs.Laws.{is-date, date-by, month-low, date-of-number, number-range}
 use Rattle.markets.specs.Markets.{isTradingDay}
 use Rattle.ranges.specs.Ranges.{Every, tradingDays, countTradingDays, joined}
 use Rattle.ranges.specs.Steps.{NextCall, PreviousCall}
 use Rattle.ranges.specs.Agreement.{Traversal, Agreement, Tile, listOf}
 use Rattle.ranges.proofs.Lists.{map-reverse}
-use Rattle.ranges.proofs.Items.{every-trading-day}
+use Rattle.ranges.proofs.Items.{every-each, every-trading-day}
 use Rattle.ranges.proofs.Months.{joined-days}
 use Rattle.longest_run.specs.MarketAgreement.{longestRun}
 use Rattle.longest_run.proofs.Markets.{bounds, markets-agree}
-use Rattle.answers.specs.Expected.{noError}
+use Rattle.answers.specs.Expected.{counted}
 use Rattle.agreement.specs.CallsAgree.{IsRange, tradingDates, Next, Previous, Month, monthNumber, monthsFrom, monthsOf, limitToRange, MonthLists, SplitDates, PartCounts, CallsAgree, AllCallsAgree}
 use Rattle.calendar.proofs.CallLaws.{supported-years}
 use Rattle.agreement.proofs.Dates.{low, high, number-from, number-to, ascending, months-ordered}
-use Rattle.agreement.proofs.Traversals.{as-dates, outside-as-dates, next-answer, previous-answer}
-use Rattle.agreement.proofs.Months.{MonthsInYears, monthRange, listed, later-in-month, number-from-day, tile, all-read, joined-dates, limited-dates}
-use Rattle.agreement.proofs.Counts.{splits-of, counted, empty-part, part-counts}
+use Rattle.agreement.proofs.Traversals.{IsDay, as-dates, outside-as-dates, next-answer, previous-answer}
+use Rattle.agreement.proofs.Months.{MonthsInYears, monthRange, listed, later-in-month, number-from-day, tile, all-read, joined-dates, are-dates, limited-dates}
+use Rattle.agreement.proofs.Counts.{splits-of, count-answers, empty-part, part-counts}
 
 module _ (market : ℕ) (first last : Date) (known : market ≤ 4) (range : IsRange first last) where
   abbrev trades : ℕ → Bool
@@ -98,21 +98,30 @@ module _ (market : ℕ) (first last : Date) (known : market ≤ 4) (range : IsRa
       let q = supported-years (last .year) (range .last-year) in
       (omega (arith, f .m-low, p), omega (arith, l .m-high, q, months-ordered first last f l (range .ordered)))
 
-  -- the days of these months have day numbers from 1 on
-  all-days : Every (λ n. 1 ≤ n) (joined (listOf trades) (map monthRange (monthsOf first last)))
+  -- the trading days of these months, and that they are days of years 1 to 9999
+  abbrev in-months : List ℕ
+  in-months = joined (listOf trades) (map monthRange (monthsOf first last))
+
+  all-days : Every IsDay in-months
   all-days =
+      let l = last-is .exists in
+      let long = month-low (last .year) (last .month) (l .m-low) (l .m-high) in
+      let end = number-range (last .year) (last .month) _
+      (date-by (last .year) (last .month) (monthLength (last .year) (last .month)) (l .y-low, last-is .y-high) (l .m-low, l .m-high) (omega arith, omega arith)) in
       let one = number-from-day (first .year) (first .month) 1 in
-      subst (Every (λ n. 1 ≤ n)) (sym (joined-days trades from (map monthRange (monthsOf first last)) to tiled))
-      (every-trading-day (λ n. 1 ≤ n) trades from to (λ i x y. omega arith))
+      subst (Every IsDay) (sym (joined-days trades from (map monthRange (monthsOf first last)) to tiled))
+      (every-trading-day IsDay trades from to (λ i x y. (omega arith, omega (arith, end))))
 
   on-months : (buffer : Month → List ℕ) → MonthLists market first last buffer
   on-months buffer =
       let f = first-is .exists in
-      let l = last-is .exists in (
+      let l = last-is .exists in
+      let joins = joined-dates market known _ (first .year) (first .month) (f .m-low) (f .m-high) in-years in (
         listed market,
         all-read market known buffer _ (first .year) (first .month) (f .m-low) (f .m-high) in-years,
-        ap (limitToRange first last) (joined-dates market known _ (first .year) (first .month) (f .m-low) (f .m-high) in-years)
-            ∙ limited-dates first last (joined (listOf trades) (map monthRange (monthsOf first last))) all-days
+        subst (Every (λ t. isDateOf t ≡ true)) (sym joins) (are-dates in-months all-days),
+        ap (limitToRange first last) joins
+            ∙ limited-dates first last in-months (every-each _ _ (λ n h. h .0) in-months all-days)
             ∙ ap (map dateOf) (on-days .months from to (map monthRange (monthsOf first last)) tiled (later-in-month (first .year) (first .month) 1 (first .day) (f .d-low)) (later-in-month (last .year) (last .month) (last .day) _ (l .d-high))),
       )
 
@@ -133,7 +142,7 @@ module _ (market : ℕ) (first last : Date) (known : market ≤ 4) (range : IsRa
         forward = on-forward;
         backward = on-backward;
         months = on-months;
-        count = counted market known first last (range .first-date) (range .last-date) first-low last-high ∙ ap noError on-length;
+        count = count-answers market known first last (range .first-date) (range .last-date) first-low last-high ∙ ap counted on-length;
         parts = on-parts;
         empty-part = λ split d l u. empty-part market known split d (omega (arith, first-low)) (omega (arith, last-high));
       }

@@ -14,13 +14,12 @@ use Rattle.markets.specs.Markets.{isTradingDay}
 use Rattle.ranges.specs.Ranges.{daysBetween, filter, Every, tradingDays, sumOf, joined}
 use Rattle.ranges.specs.Steps.{NonTradingBetween}
 use Rattle.ranges.specs.Agreement.{Traversal}
-use Rattle.longest_run.specs.MarketAgreement.{longestRun}
 use Rattle.calendar.specs.Calls.{isSupported}
 use Rattle.range_calls.specs.RangeCalls.{nextTradingDayResult, previousTradingDayResult, tradingDaysInMonthResult, tradingDaysInMonthBuffer, countTradingDaysResult}
 use Rattle.answers.specs.declared.neighbours.TradingDayAnswer.{TradingDayAnswer}
 use Rattle.answers.specs.declared.counts.CountAnswer.{CountAnswer}
 use Rattle.answers.specs.Answers.{tradingDayAnswer, countAnswer}
-use Rattle.answers.specs.Expected.{noError, tooSmall}
+use Rattle.answers.specs.Expected.{foundDay, counted, tooSmall}
 
 -- ---- the range
 
@@ -54,23 +53,27 @@ abbrev pub markOf : Date → Date → ℕ
 markOf s t = cond (isSupported (s .year) && isSupported (t .year)) 0 1
 
 -- [agreement-call], [agreement-no-error]: a call ("step") gives no error and answers a date that trades. `earlier` and `later` are the
--- date given and the answer, the earlier one first. At most so many days are strictly between them, and none of these trades; the
+-- date given and the answer, the earlier one first. At most `most` days are strictly between them, and none of these trades; the
 -- distance is one more than their number, and it is the number of days from the one to the other.
-pub record NeighbourAnswer (market most : ℕ) (result : TradingDayAnswer) (answer earlier later : Date) : Type 0 where
+pub record NeighbourAnswer (market most : ℕ) (returned : TradingDayAnswer) (answer earlier later : Date) : Type 0 where
   pub distance : ℕ
-  pub no-error : result ≡ record { error = 0; date = answer; distance = distance; outside = markOf earlier later }
+  pub no-error : returned ≡ foundDay answer distance (markOf earlier later)
   pub is-date : isDateOf answer ≡ true
   pub trading : isTradingDay market (number answer) ≡ true
   pub between : NonTradingBetween (isTradingDay market) most (number earlier) (number later)
   pub one-more : distance ≡ suc (length (daysBetween (number earlier) (number later)))
   pub difference : number earlier + distance ≡ number later
 
--- the next and the previous call on the date given; they pass at most ten days
+-- [agreement-call]: at most ten
+abbrev pub mostBetween : ℕ
+mostBetween = 10
+
+-- the next and the previous call on the date given
 abbrev pub Next : ℕ → Date → Date → Type 0
-Next market given answer = NeighbourAnswer market longestRun (nextCall market given) answer given answer
+Next market given answer = NeighbourAnswer market mostBetween (nextCall market given) answer given answer
 
 abbrev pub Previous : ℕ → Date → Date → Type 0
-Previous market given answer = NeighbourAnswer market longestRun (previousCall market given) answer answer given
+Previous market given answer = NeighbourAnswer market mostBetween (previousCall market given) answer answer given
 
 -- ---- months
 
@@ -98,11 +101,11 @@ monthCall market m buffer = countAnswer (tradingDaysInMonthResult market (m .yea
 -- The call on the buffer gives no error; the first bytes of the buffer after it, as many as it returned, are these.
 abbrev pub Writes : ℕ → Month → List ℕ → List ℕ → Type 0
 Writes market m buffer bytes =
-    (monthCall market m buffer ≡ noError (length bytes))
+    (monthCall market m buffer ≡ counted (length bytes))
     × (take (length bytes) (tradingDaysInMonthBuffer market (m .year) (m .month) buffer) ≡ bytes)
 
--- The bytes come so from the month's own buffer; or the call gives error 9 there and names their number, and they come so from every
--- buffer of that length or more.
+-- The call on the month's own buffer writes these bytes; or it gives error 9 with their number, and writes them on every buffer that
+-- has so many or more.
 abbrev pub Reads : ℕ → Month → List ℕ → List ℕ → Type 0
 Reads market m buffer bytes =
     Writes market m buffer bytes
@@ -116,10 +119,12 @@ datesOf bytes m = map (date (m .year) (m .month)) (bytes m)
 abbrev pub limitToRange : Date → Date → List Date → List Date
 limitToRange first last = filter (λ t. leb (number first) (number t) && leb (number t) (number last))
 
--- the month calls, with these buffers, read some bytes; as dates, joined in order and limited to the range, they are its list
+-- The month calls, with these buffers, read some bytes, which are days of their months; as dates, joined in order and limited to the
+-- range, they are its list.
 abbrev pub MonthLists : ℕ → Date → Date → (Month → List ℕ) → Type 0
 MonthLists market first last buffer =
     (bytes : Month → List ℕ) × Every (λ m. Reads market m (buffer m) (bytes m)) (monthsOf first last)
+    × Every (λ t. isDateOf t ≡ true) (joined (datesOf bytes) (monthsOf first last))
     × (limitToRange first last (joined (datesOf bytes) (monthsOf first last)) ≡ tradingDates market first last)
 
 -- ---- counts
@@ -138,7 +143,7 @@ partsOf first [] last = record { start = first; end = last } ∷ []
 partsOf first (split ∷ splits) last = record { start = first; end = dayBefore split } ∷ partsOf split splits last
 
 -- [reading-split-dates]: the split dates are dates in order, from the first date on to the last or the day after it. Two may be equal.
--- Past the first of them, `first` is the last split date before.
+-- In the recursion, `first` is the split date before.
 abbrev pub SplitDates : Date → List Date → Date → Type 0
 SplitDates first [] last = number first ≤ suc (number last)
 SplitDates first (split ∷ splits) last = (isDateOf split ≡ true) × (number first ≤ number split) × SplitDates split splits last
@@ -147,7 +152,7 @@ SplitDates first (split ∷ splits) last = (isDateOf split ≡ true) × (number 
 -- the list
 abbrev pub PartCounts : ℕ → Date → List Date → Date → Type 0
 PartCounts market first splits last =
-    (counts : List ℕ) × (map (λ p. countCall market (p .start) (p .end)) (partsOf first splits last) ≡ map noError counts)
+    (counts : List ℕ) × (map (λ p. countCall market (p .start) (p .end)) (partsOf first splits last) ≡ map counted counts)
     × (sumOf (λ n. n) counts ≡ length (tradingDates market first last))
 
 -- ---- the claim
@@ -162,11 +167,11 @@ pub record CallsAgree (market : ℕ) (first last : Date) : Type 0 where
   -- [agreement-months]: whatever the months' buffers are
   pub months : (buffer : Month → List ℕ) → MonthLists market first last buffer
   -- [agreement-count]
-  pub count : countCall market first last ≡ noError (length (tradingDates market first last))
+  pub count : countCall market first last ≡ counted (length (tradingDates market first last))
   -- [agreement-parts]: also where there is no split date; and an empty part counts 0, on the range's first day and after its last too
   pub parts : (splits : List Date) → SplitDates first splits last → PartCounts market first splits last
   pub empty-part : (split : Date) → isDateOf split ≡ true → number first ≤ number split → number split ≤ suc (number last)
-      → countCall market split (dayBefore split) ≡ noError 0
+      → countCall market split (dayBefore split) ≡ counted 0
 
 -- [agreement], for codes 0 to 4 and every range
 abbrev pub AllCallsAgree : Type 0

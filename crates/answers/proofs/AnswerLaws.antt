@@ -9,17 +9,17 @@ use Rattle.error.specs.Errors.{errorFields}
 use Rattle.error.proofs.ErrorLaws.{error-number}
 use Rattle.answers.specs.declared.counts.CountAnswer.{CountAnswer}
 use Rattle.answers.specs.Answers.{countAnswer}
-use Rattle.answers.specs.Expected.{noError, tooSmall}
+use Rattle.answers.specs.Expected.{counted, tooSmall}
 
-pub no-error-is : (n : ℕ) → countAnswer (CountResult.Ok n) ≡ noError n
+pub counted-is : (n : ℕ) → countAnswer (CountResult.Ok n) ≡ counted n
 unfolding countAnswer
-no-error-is n = refl
+counted-is n = refl
 
 pub too-small-is : (n : ℕ) → countAnswer (CountResult.Err (BufferTooSmall n)) ≡ tooSmall n
 unfolding countAnswer errorFields
 too-small-is n = refl
 
-pub was-no-error : (r : CountResult) (n : ℕ) → countAnswer r ≡ noError n → r ≡ CountResult.Ok n
+pub was-counted : (r : CountResult) (n : ℕ) → countAnswer r ≡ counted n → r ≡ CountResult.Ok n
 unfolding countAnswer
-was-no-error (CountResult.Ok k) n e = ap CountResult.Ok (ap (λ (a : CountAnswer). a .count) e)
-was-no-error (CountResult.Err d) n e = absurd (omega (arith, ap (λ (a : CountAnswer). a .error) e, error-number d))
+was-counted (CountResult.Ok k) n e = ap CountResult.Ok (ap (λ (a : CountAnswer). a .count) e)
+was-counted (CountResult.Err d) n e = absurd (omega (arith, ap (λ (a : CountAnswer). a .error) e, error-number d))

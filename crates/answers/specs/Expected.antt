@@ -1,12 +1,37 @@
--- Answers field by field, for the claims about what the calls return. No definition of Answers.antt stands in them: a wrong field there
--- contradicts the claims. Assumes nothing.
+-- Answers written out, field by field, for the claims about what calls return. They use no definition of Answers.antt, so a wrong field
+-- in Answers.antt contradicts the claims. Assumes nothing.
 use Prim.Native.Nat.{ℕ}
+use Rattle.gregorian.specs.declared.Date.{Date}
 use Rattle.gregorian.specs.Calendar.{noDate}
+use Rattle.answers.specs.declared.OptionalDate.{OptionalDate}
+use Rattle.answers.specs.declared.BoolAnswer.{BoolAnswer}
+use Rattle.answers.specs.declared.neighbours.TradingDayAnswer.{TradingDayAnswer}
 use Rattle.answers.specs.declared.counts.CountAnswer.{CountAnswer}
 
--- a number, without an error
-abbrev pub noError : ℕ → CountAnswer
-noError n = record { error = 0; count = n; date = noDate }
+-- ---- without an error
+
+abbrev pub foundDate : Date → OptionalDate
+foundDate t = record { found = 1; date = t }
+
+abbrev pub isYes : BoolAnswer
+isYes = record { error = 0; value = 1; date = noDate }
+
+abbrev pub isNo : BoolAnswer
+isNo = record { error = 0; value = 0; date = noDate }
+
+-- a trading day, its distance and its mark
+abbrev pub foundDay : Date → ℕ → ℕ → TradingDayAnswer
+foundDay t distance mark = record { error = 0; date = t; distance = distance; outside = mark }
+
+-- a count, of days or of bytes
+abbrev pub counted : ℕ → CountAnswer
+counted n = record { error = 0; count = n; date = noDate }
+
+-- ---- with one
+
+-- error 1, with the date that it returns
+abbrev pub outOfRange : Date → CountAnswer
+outOfRange t = record { error = 1; count = 0; date = t }
 
 -- error 9, with the number of bytes needed
 abbrev pub tooSmall : ℕ → CountAnswer

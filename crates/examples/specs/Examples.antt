@@ -3,7 +3,7 @@ use Prim.Native.Nat.{ℕ}
 use mathlib.Core.Path.{_≡_}
 use mathlib.Core.List.{List, [], _∷_, _++_, map}
 use Rattle.gregorian.specs.declared.Date.{Date}
-use Rattle.gregorian.specs.Calendar.{date, noDate}
+use Rattle.gregorian.specs.Calendar.{date}
 use Rattle.utils.specs.Easter.{calculateEaster}
 use Rattle.ranges.specs.Ranges.{Every}
 use Rattle.calendar.specs.Calls.{isTradingDayResult, isHolidayResult}
@@ -13,6 +13,7 @@ use Rattle.answers.specs.declared.BoolAnswer.{BoolAnswer}
 use Rattle.answers.specs.declared.neighbours.TradingDayAnswer.{TradingDayAnswer}
 use Rattle.answers.specs.declared.counts.CountAnswer.{CountAnswer}
 use Rattle.answers.specs.Answers.{optionalDate, boolAnswer, tradingDayAnswer, countAnswer}
+use Rattle.answers.specs.Expected.{foundDate, isYes, isNo, foundDay, counted, outOfRange}
 
 -- A call on a market's code, or on a year, and dates; last its answer.
 pub data Example : Type 0 where
@@ -44,26 +45,6 @@ tse = 3
 abbrev pub tsx : ℕ
 tsx = 4
 
--- answers without an error; the mark of the next trading day is not set
-abbrev pub foundDate : Date → OptionalDate
-foundDate t = record { found = 1; date = t }
-
-abbrev pub isYes : BoolAnswer
-isYes = record { error = 0; value = 1; date = noDate }
-
-abbrev pub isNo : BoolAnswer
-isNo = record { error = 0; value = 0; date = noDate }
-
-abbrev pub inside : Date → ℕ → TradingDayAnswer
-inside t distance = record { error = 0; date = t; distance = distance; outside = 0 }
-
-abbrev pub counted : ℕ → CountAnswer
-counted n = record { error = 0; count = n; date = noDate }
-
--- error 1 with the date that it returns
-abbrev pub outOfRange : Date → CountAnswer
-outOfRange t = record { error = 1; count = 0; date = t }
-
 -- a row that names no market, for each of them
 abbrev pub forEachMarket : (ℕ → Example) → List Example
 forEachMarket row = map row (0 ∷ 1 ∷ 2 ∷ 3 ∷ 4 ∷ [])
@@ -74,7 +55,7 @@ examples =
     CalculateEaster 2024 (foundDate (date 2024 3 31))
     ∷ CalculateEaster 1818 (foundDate (date 1818 3 22))
     ∷ CalculateEaster 1943 (foundDate (date 1943 4 25))
-    ∷ NextTradingDay tse (date 2022 4 28) (inside (date 2022 5 9) 11)
+    ∷ NextTradingDay tse (date 2022 4 28) (foundDay (date 2022 5 9) 11 0)
     ∷ IsTradingDay tse (date 2020 5 6) isYes
     ∷ IsHoliday tse (date 2021 1 4) isYes
     ∷ IsTradingDay tsx (date 2022 12 27) isYes

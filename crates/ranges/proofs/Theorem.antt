@@ -1,12 +1,13 @@
 -- Where runs of non-trading days are short, every way to the trading days of a range gives the same.
 -- Assumes nothing.
 use Prim.Native.Nat.{ℕ, suc, _+_, _-_, _≤_}
-use mathlib.Core.Path.{sym, _∙_}
+use mathlib.Core.Path.{_≡_, sym, _∙_}
 use mathlib.Core.Bool.{Bool}
 use mathlib.Core.List.{reverse}
 use lib.Dec.{leb}
 use native.Mathlib.Omega.{arith}
 use borrow.Author.Tests.{leb-true}
+use Rattle.utils.specs.declared.OptionalDay.the-variants.{None}
 use Rattle.ranges.specs.Ranges.{tradingDays, nextTradingDay, previousTradingDay}
 use Rattle.ranges.specs.Steps.{NextCall, PreviousCall, ShortRuns, ShortSteps}
 use Rattle.ranges.specs.Agreement.{TraversalTo, Traversal, AgreementTo, AgreementToEnds, Agreement, Agree, AgreeInside}
@@ -49,14 +50,14 @@ module _ (trades : ℕ → Bool) (most first last low high a b : ℕ) (o : 1 ≤
 
   answers-forward : Traversal (NextCall trades most last) (λ m. leb m b) (a - 1) (tradingDays trades a b)
   answers-forward =
-      every-call-answers (NextCall trades most high) (NextCall trades most last) (nextTradingDay trades high) (λ m. leb m b) (λ n. (low ≤ n) × (n ≤ b))
+      every-call-answers (NextCall trades most high) (NextCall trades most last) (λ n. nextTradingDay trades high n ≡ None) (λ m. leb m b) (λ n. (low ≤ n) × (n ≤ b))
       (λ n m k c. let up = c .2 .ordered in (next-further trades most high last n m z c, λ e. (omega (arith, k), leb-true m b e)))
       (λ n k e. let r = steps .next-answers n (omega (arith, k)) (omega (arith, k)) in no-day (r .0) (sym e ∙ r .1 .0))
       (a - 1) (tradingDays trades a b) (omega arith, omega arith) (on-all .forward)
 
   answers-backward : Traversal (PreviousCall trades most first) (λ m. leb a m) (suc b) (reverse (tradingDays trades a b))
   answers-backward =
-      every-call-answers (PreviousCall trades most low) (PreviousCall trades most first) (previousTradingDay trades low) (λ m. leb a m) (λ n. (a ≤ n) × (n ≤ high))
+      every-call-answers (PreviousCall trades most low) (PreviousCall trades most first) (λ n. previousTradingDay trades low n ≡ None) (λ m. leb a m) (λ n. (a ≤ n) × (n ≤ high))
       (λ n m k c. let down = c .2 .ordered in (previous-further trades most first low n m o f c, λ e. (leb-true a m e, omega (arith, k))))
       (λ n k e. let r = steps .previous-answers n (omega (arith, k)) (omega (arith, k)) in no-day (r .0) (sym e ∙ r .1 .0))
       (suc b) (reverse (tradingDays trades a b)) (omega arith, omega arith) (on-all .backward)

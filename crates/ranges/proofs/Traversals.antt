@@ -8,7 +8,6 @@ use mathlib.Core.List.{List, [], _∷_, map, map-id, reverse}
 use lib.Dec.{leb}
 use native.Mathlib.Omega.{arith}
 use borrow.Author.Tests.{leb-true, le-leb, lt-leb}
-use Rattle.utils.specs.declared.OptionalDay.{OptionalDay}
 use Rattle.utils.specs.declared.OptionalDay.the-variants.{Day, None}
 use Rattle.utils.specs.Weekday.{mapDay}
 use Rattle.ranges.specs.Ranges.{tradingDays, nextTradingDay, previousTradingDay}
@@ -48,27 +47,30 @@ module _ {A : Type 0} (C : A → A → Type 0) (p : A → Bool) (h : (n m k : A)
   pub outside-ends : (n m : A) → EndsOutside C p n → C n m → p m ≡ false
   outside-ends n m t c = ap p (h n m (t .0) c (t .1)) ∙ t .2
 
+  pub outside-or-none-ends : (NoAnswer : A → Type 0) → ((n m : A) → NoAnswer n → C n m → ⊥) → (n m : A) → EndsOutsideOrNone C NoAnswer p n → C n m → p m ≡ false
+  outside-or-none-ends NoAnswer e n m t c = ⊎-elim (λ x. outside-ends n m x c) (λ x. absurd (e n m x c)) t
+
 -- From the first item of its list on, a traversal lists the same.
 pub traversal-of : {A : Type 0} (C : A → A → Type 0) (p : A → Bool) (E : A → Type 0) (n : A) (l : List A) → TraversalTo C p E n l → TraversalOf C p E l
 traversal-of C p E n [] t = tt
 traversal-of C p E n (m ∷ l) t = t .2
 
 -- Where every call answers, no traversal ends by none.
-pub every-call-answers : (C D : ℕ → ℕ → Type 0) (neighbour : ℕ → OptionalDay) (p : ℕ → Bool) (P : ℕ → Type 0)
-    → ((n m : ℕ) → P n → C n m → D n m × (p m ≡ true → P m)) → ((n : ℕ) → P n → neighbour n ≡ None → ⊥)
-    → (n : ℕ) (l : List ℕ) → P n → TraversalTo C p (EndsOutsideOrNone C neighbour p) n l → TraversalTo D p (EndsOutside D p) n l
-every-call-answers C D neighbour p P h e n l k t =
+pub every-call-answers : {A : Type 0} (C D : A → A → Type 0) (NoAnswer : A → Type 0) (p : A → Bool) (P : A → Type 0)
+    → ((n m : A) → P n → C n m → D n m × (p m ≡ true → P m)) → ((n : A) → P n → NoAnswer n → ⊥)
+    → (n : A) (l : List A) → P n → TraversalTo C p (EndsOutsideOrNone C NoAnswer p) n l → TraversalTo D p (EndsOutside D p) n l
+every-call-answers C D NoAnswer p P h e n l k t =
     subst (TraversalTo D p (EndsOutside D p) n) (map-id l)
-    (traversal-map (λ i. i) C D p p P same (EndsOutsideOrNone C neighbour p) (EndsOutside D p) (λ n k. ⊎-elim (outside-map (λ i. i) C D p p P same n k) (λ z. absurd (e n k z))) n l k t)
+    (traversal-map (λ i. i) C D p p P same (EndsOutsideOrNone C NoAnswer p) (EndsOutside D p) (λ n k. ⊎-elim (outside-map (λ i. i) C D p p P same n k) (λ z. absurd (e n k z))) n l k t)
   where
-    same : (n m : ℕ) → P n → C n m → D n m × (p m ≡ p m) × (p m ≡ true → P m)
+    same : (n m : _) → P n → C n m → D n m × (p m ≡ p m) × (p m ≡ true → P m)
     same n m k c = let g = h n m k c in (g .0, refl, g .1)
 
 -- ---- forward
 
 module _ (trades : ℕ → Bool) (most first last : ℕ) (runs : ShortRuns trades most first last) (b : ℕ) (z : b ≤ last) where
   abbrev Forward : ℕ → List ℕ → Type 0
-  Forward = TraversalTo (NextCall trades most last) (λ m. leb m b) (EndsOutsideOrNone (NextCall trades most last) (nextTradingDay trades last) (λ m. leb m b))
+  Forward = TraversalTo (NextCall trades most last) (λ m. leb m b) (EndsOutsideOrNone (NextCall trades most last) (λ n. nextTradingDay trades last n ≡ None) (λ m. leb m b))
 
   -- The answers from n on up to b are the trading days after n up to b. At most k days are left.
   forward-from : (k n : ℕ) → first ≤ suc n → n ≤ b → b < n + k → Forward n (tradingDays trades (suc n) b)
@@ -112,10 +114,10 @@ module _ (trades : ℕ → Bool) (most first last : ℕ) (o : 1 ≤ first) (runs
   Out = PreviousCall trades most first
 
   abbrev InEnds : ℕ → Type 0
-  InEnds = EndsOutsideOrNone In (nextTradingDay (mirrored trades c) (c - first)) (λ m. leb m (c - a))
+  InEnds = EndsOutsideOrNone In (λ n. nextTradingDay (mirrored trades c) (c - first) n ≡ None) (λ m. leb m (c - a))
 
   abbrev OutEnds : ℕ → Type 0
-  OutEnds = EndsOutsideOrNone Out (previousTradingDay trades first) (λ m. leb a m)
+  OutEnds = EndsOutsideOrNone Out (λ n. previousTradingDay trades first n ≡ None) (λ m. leb a m)
 
   runs-in : ShortRuns (mirrored trades c) most 1 (c - first)
   runs-in =

@@ -6,7 +6,6 @@ use mathlib.Core.Logic.{_⊎_}
 use mathlib.Core.List.{List, [], _∷_, reverse}
 use lib.Dec.{leb}
 use lib.ListN.{length}
-use Rattle.utils.specs.declared.OptionalDay.{OptionalDay}
 use Rattle.utils.specs.declared.OptionalDay.the-variants.{None}
 use Rattle.ranges.specs.Ranges.{tradingDays, nextTradingDay, previousTradingDay, countTradingDays, DateRange, parts, sumOf, joined, limitTo}
 use Rattle.ranges.specs.Steps.{NextCall, PreviousCall, ShortRuns}
@@ -14,8 +13,9 @@ use Rattle.ranges.specs.Steps.{NextCall, PreviousCall, ShortRuns}
 -- ---- traversals
 
 -- A traversal ("walk") from n lists these answers: call after call, each on the answer before, while that is inside. `Call n m` says
--- that the call on n answers m, and what else is to hold of that call ("step"). `Ends n` says of the last call, on n, that it ends the
--- traversal; it lists nothing. proofs/Traversals.antt, `traversal-unique`: where a call has one answer, there is no other list.
+-- that the call on n answers m, and what else is to hold of that call ("step"). `Ends n` says that the call on n ends the traversal; its
+-- answer, if any, is not listed. proofs/Traversals.antt, `traversal-unique`: where a call has one answer, and one that ends the traversal
+-- has none inside, there is no other list.
 abbrev pub TraversalTo : {A : Type 0} → (A → A → Type 0) → (A → Bool) → (A → Type 0) → A → List A → Type 0
 TraversalTo Call inside Ends n [] = Ends n
 TraversalTo Call inside Ends n (m ∷ ms) = Call n m × (inside m ≡ true) × TraversalTo Call inside Ends m ms
@@ -28,19 +28,19 @@ EndsOutside Call inside n = (m : _) × Call n m × (inside m ≡ false)
 abbrev pub Traversal : {A : Type 0} → (A → A → Type 0) → (A → Bool) → A → List A → Type 0
 Traversal Call inside = TraversalTo Call inside (EndsOutside Call inside)
 
--- A traversal that starts on an item of its own list, the first. Where there is none, nothing is called and nothing listed.
+-- A traversal that starts on the first item of its own list, a range's trading days. Where there is none, nothing is called.
 abbrev pub TraversalOf : {A : Type 0} → (A → A → Type 0) → (A → Bool) → (A → Type 0) → List A → Type 0
 TraversalOf Call inside Ends [] = Unit {0}
 TraversalOf Call inside Ends (m ∷ ms) = TraversalTo Call inside Ends m ms
 
--- An answer that is not inside ends it, or that there is none.
-abbrev pub EndsOutsideOrNone : (ℕ → ℕ → Type 0) → (ℕ → OptionalDay) → (ℕ → Bool) → ℕ → Type 0
-EndsOutsideOrNone Call neighbour inside n = EndsOutside Call inside n ⊎ (neighbour n ≡ None)
+-- It ends with an answer that is not inside, or with none: `NoAnswer n` says that the call on n answers none.
+abbrev pub EndsOutsideOrNone : {A : Type 0} → (A → A → Type 0) → (A → Type 0) → (A → Bool) → A → Type 0
+EndsOutsideOrNone Call NoAnswer inside n = EndsOutside Call inside n ⊎ NoAnswer n
 
 -- ---- parts and months
 
 -- [reading-split-dates]: the split dates are in order, from a to b or the day after b, which starts an empty part. Two may be equal.
--- Past the first of them, a is the last split date before.
+-- In the recursion, a is the split date before.
 abbrev pub Splits : ℕ → List ℕ → ℕ → Type 0
 Splits a [] b = a ≤ suc b
 Splits a (c ∷ splits) b = (a ≤ c) × Splits c splits b
@@ -60,8 +60,8 @@ listOf trades r = tradingDays trades (r .first) (r .last)
 -- ---- the theorem
 
 -- The ways to the trading days from a to b agree: [agreement-forward], [agreement-backward], [agreement-count], [agreement-parts] and
--- [agreement-months]. All days are those from `first` to `last`. A traversal starts beside the range, or, where that is no day of
--- these, on the first or last trading day of the range; `NextEnds` and `PreviousEnds` say how it ends.
+-- [agreement-months]. All days are those from `first` to `last`. Both starts of a traversal are stated: on the day beside the range, and,
+-- for where that is no day of these, on the first or the last trading day of the range. `NextEnds` and `PreviousEnds` say how it ends.
 pub record AgreementTo (trades : ℕ → Bool) (most first last a b : ℕ) (NextEnds PreviousEnds : ℕ → Type 0) : Type 0 where
   pub forward : TraversalTo (NextCall trades most last) (λ m. leb m b) NextEnds (a - 1) (tradingDays trades a b)
   pub forward-of : TraversalOf (NextCall trades most last) (λ m. leb m b) NextEnds (tradingDays trades a b)
@@ -72,18 +72,18 @@ pub record AgreementTo (trades : ℕ → Bool) (most first last a b : ℕ) (Next
   pub empty-part : (c : ℕ) → a ≤ c → countTradingDays trades c (c - 1) ≡ 0
   pub months : (low high : ℕ) (rs : List DateRange) → Tile low rs high → low ≤ a → b ≤ high → limitTo a b (joined (listOf trades) rs) ≡ tradingDays trades a b
 
--- A traversal may end by none, on the first or the last of all days.
+-- A traversal may also end by none, where no trading day is left up to `last` or down to `first`.
 abbrev pub AgreementToEnds : (ℕ → Bool) → ℕ → ℕ → ℕ → ℕ → ℕ → Type 0
 AgreementToEnds trades most first last a b =
-    AgreementTo trades most first last a b (EndsOutsideOrNone (NextCall trades most last) (nextTradingDay trades last) (λ m. leb m b))
-    (EndsOutsideOrNone (PreviousCall trades most first) (previousTradingDay trades first) (λ m. leb a m))
+    AgreementTo trades most first last a b (EndsOutsideOrNone (NextCall trades most last) (λ n. nextTradingDay trades last n ≡ None) (λ m. leb m b))
+    (EndsOutsideOrNone (PreviousCall trades most first) (λ n. previousTradingDay trades first n ≡ None) (λ m. leb a m))
 
--- Every call answers.
+-- The same where every call answers: only an answer outside the range ends a traversal.
 abbrev pub Agreement : (ℕ → Bool) → ℕ → ℕ → ℕ → ℕ → ℕ → Type 0
 Agreement trades most first last a b =
     AgreementTo trades most first last a b (EndsOutside (NextCall trades most last) (λ m. leb m b)) (EndsOutside (PreviousCall trades most first) (λ m. leb a m))
 
--- The theorem: where runs are short, on every range of all days, one that starts on the first or ends on the last of them too.
+-- The theorem: where runs are short, for every range from `first` to `last`, both included.
 abbrev pub Agree : (ℕ → Bool) → ℕ → ℕ → ℕ → Type 0
 Agree trades most first last =
     (a b : ℕ) → 1 ≤ first → ShortRuns trades most first last → first ≤ a → a ≤ b → b ≤ last → AgreementToEnds trades most first last a b

@@ -7,7 +7,7 @@ use lib.ListN.{length}
 use Rattle.utils.specs.declared.OptionalDay.the-variants.{Day}
 use Rattle.ranges.specs.Ranges.{daysBetween, nextTradingDay, previousTradingDay}
 
--- [agreement-call]: the days strictly between two days (the closed days that a "step" passes) are at most so many, and none trades.
+-- [agreement-call]: the days strictly between two days (the closed days that a "step" passes) are at most `most`, and none trades.
 pub record NonTradingBetween (trades : ℕ → Bool) (most earlier later : ℕ) : Type 0 where
   pub ordered : earlier < later
   pub at-most : length (daysBetween earlier later) ≤ most
@@ -25,14 +25,14 @@ PreviousCall trades most first n m = (previousTradingDay trades first n ≡ Day 
 abbrev pub ShortRuns : (ℕ → Bool) → ℕ → ℕ → ℕ → Type 0
 ShortRuns trades most low high = (n : ℕ) → low ≤ n → n + most ≤ high → (m : ℕ) × (n ≤ m) × (m ≤ n + most) × (trades m ≡ true)
 
--- Every call that answers passes at most so many days, none of which trades; and every call answers that has `most + 1` days to look at.
+-- Every call that answers passes at most `most` days, none of which trades; and every call answers that has `most + 1` days to look at.
 pub record ShortSteps (trades : ℕ → Bool) (most first last : ℕ) : Type 0 where
   pub next : (n m : ℕ) → first ≤ suc n → nextTradingDay trades last n ≡ Day m → NextCall trades most last n m
   pub previous : (n m : ℕ) → n ≤ suc last → previousTradingDay trades first n ≡ Day m → PreviousCall trades most first n m
   pub next-answers : (n : ℕ) → first ≤ suc n → n + suc most ≤ last → (m : ℕ) × NextCall trades most last n m
   pub previous-answers : (n : ℕ) → first + suc most ≤ n → n ≤ suc last → (m : ℕ) × PreviousCall trades most first n m
 
--- It is so where runs are short.
+-- `ShortSteps` holds where runs are short.
 abbrev pub StepsAreShort : (ℕ → Bool) → ℕ → ℕ → ℕ → Type 0
 StepsAreShort trades most first last = 1 ≤ first → ShortRuns trades most first last → ShortSteps trades most first last
 

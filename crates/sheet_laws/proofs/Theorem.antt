@@ -23,8 +23,8 @@ use Rattle.range_calls.specs.RangeCalls.{writtenResult, finalBuffer, tradingDay
 use Rattle.calendar.proofs.CallLaws.{supported-years}
 use Rattle.range_calls.proofs.MonthLaws.{NoMonthError, no-month-error, written-ok, month-of-years}
 use Rattle.answers.specs.Answers.{countAnswer}
-use Rattle.answers.specs.Expected.{noError}
-use Rattle.answers.proofs.AnswerLaws.{no-error-is, was-no-error}
+use Rattle.answers.specs.Expected.{counted}
+use Rattle.answers.proofs.AnswerLaws.{counted-is, was-counted}
 use Rattle.decimal.specs.Decimal.{decimal, valueOf}
 use Rattle.decimal.proofs.DecimalLaws.{length-positive, length-at-most, decimal-digits, decimal-value, no-leading-zero}
 use Rattle.request.specs.declared.Request.{Request}
@@ -169,8 +169,8 @@ module _ (market year month : ℕ) (k : NoMonthError market year month) where
         read-back = read-back ∙ sym e;
         count-is = count ∙ sym (ap length list ∙ length-map days decimal);
         days-are = same;
-        month-call = λ buffer i h. let w = month-written buffer i (was-no-error _ i h) in (w .0 ∙ sym count, w .1 ∙ sym same);
-        no-error = λ buffer h. ap countAnswer (month-answer buffer ∙ written-ok days buffer (omega arith)) ∙ no-error-is (length days) ∙ ap noError (sym count);
+        month-call = λ buffer i h. let w = month-written buffer i (was-counted _ i h) in (w .0 ∙ sym count, w .1 ∙ sym same);
+        no-error = λ buffer h. ap countAnswer (month-answer buffer ∙ written-ok days buffer (omega arith)) ∙ counted-is (length days) ∙ ap counted (sym count);
       }
 
 -- ---- the call
@@ -190,7 +190,7 @@ years-supported year from to = simp (le-leb 2020 year from, le-leb year 2030 to)
 
 -- The text asks for a month without an error, and every sheet has room.
 answered : (text buffer : List ℕ) (market year month : ℕ) → readRequest text ≡ Request.Month market year month → NoMonthError market year month
-    → 136 ≤ length buffer → (n : ℕ) × (sheetCall text buffer ≡ noError n)
+    → 136 ≤ length buffer → (n : ℕ) × (sheetCall text buffer ≡ counted n)
 answered text buffer market year month e k room =
     let bytes = monthSheet market year month in
     let short = sheet-length market year month (k .known) (k .supported) (k .is-month) in (
@@ -198,7 +198,7 @@ answered text buffer market year month e k room =
       ap (λ (r : Request). countAnswer (sheetWritten (sheetOfRequest r) buffer)) e
           ∙ ap (λ (r : SheetResult). countAnswer (sheetWritten r buffer)) (sheet-by-check market year month _ (no-month-error market year month k))
           ∙ ap countAnswer (written-ok bytes buffer (omega arith))
-          ∙ no-error-is (length bytes),
+          ∙ counted-is (length bytes),
     )
 
 -- [sheet-output], [sheet-numbers], [sheet-return]
@@ -207,5 +207,5 @@ sheet-laws = record {
   answered = λ text buffer market year month e k from to l u room.
       answered text buffer market year month e
       (record { known = k; supported = years-supported year from to; is-month = simp (le-leb 1 month l, le-leb month 12 u) }) room;
-  written = λ text buffer n h. by-request text buffer n (readRequest text) refl (was-no-error _ n h);
+  written = λ text buffer n h. by-request text buffer n (readRequest text) refl (was-counted _ n h);
 }

@@ -11,7 +11,7 @@ use Rattle.trading_days.specs.Month.{monthList}
 use Rattle.range_calls.specs.RangeCalls.{tradingDaysInMonthResult, tradingDaysInMonthBuffer}
 use Rattle.answers.specs.declared.counts.CountAnswer.{CountAnswer}
 use Rattle.answers.specs.Answers.{countAnswer}
-use Rattle.answers.specs.Expected.{noError}
+use Rattle.answers.specs.Expected.{counted}
 use Rattle.decimal.specs.Decimal.{valueOf}
 use Rattle.request.specs.declared.Request.{Request}
 use Rattle.request.specs.Text.{ascii}
@@ -95,14 +95,14 @@ pub record SheetLaws (text : List ℕ) (n : ℕ) (written : List ℕ) : Type 0 w
   -- `days` are the month list's
   pub days-are : map valueOf (splitList days) ≡ monthList market year month
   -- The month call writes the same days and answers the same count; and it gives no error where they fit.
-  pub month-call : (buffer : List ℕ) (k : ℕ) → monthCall market year month buffer ≡ noError k
+  pub month-call : (buffer : List ℕ) (k : ℕ) → monthCall market year month buffer ≡ counted k
       → (k ≡ valueOf count-digits) × (take k (tradingDaysInMonthBuffer market year month buffer) ≡ map valueOf (splitList days))
-  pub no-error : (buffer : List ℕ) → valueOf count-digits ≤ length buffer → monthCall market year month buffer ≡ noError (valueOf count-digits)
+  pub no-error : (buffer : List ℕ) → valueOf count-digits ≤ length buffer → monthCall market year month buffer ≡ counted (valueOf count-digits)
 
 -- for every text and buffer
 pub record AllSheetLaws : Type 0 where
   -- Where the text asks for a month of 2020 to 2030 of one of the markets, and there is room, the call gives no error.
   pub answered : (text buffer : List ℕ) (market year month : ℕ) → readRequest text ≡ Request.Month market year month → market ≤ 4 → 2020 ≤ year → year ≤ 2030
-      → 1 ≤ month → month ≤ 12 → 136 ≤ length buffer → (n : ℕ) × (sheetCall text buffer ≡ noError n)
+      → 1 ≤ month → month ≤ 12 → 136 ≤ length buffer → (n : ℕ) × (sheetCall text buffer ≡ counted n)
   -- Where it gives none, the bytes written are the sheet of such a month.
-  pub written : (text buffer : List ℕ) (n : ℕ) → sheetCall text buffer ≡ noError n → SheetLaws text n (take n (monthSheetBuffer text buffer))
+  pub written : (text buffer : List ℕ) (n : ℕ) → sheetCall text buffer ≡ counted n → SheetLaws text n (take n (monthSheetBuffer text buffer))
