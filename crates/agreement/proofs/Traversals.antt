@@ -24,6 +24,7 @@ use Rattle.range_calls.specs.RangeCalls.{distanceOf, tradingDay, tradingDayResu
 use Rattle.range_calls.proofs.RangeLaws.{to-later, to-earlier, neighbour-of-date}
 use Rattle.answers.specs.declared.neighbours.TradingDayAnswer.{TradingDayAnswer}
 use Rattle.answers.specs.Answers.{flagOf, tradingDayAnswer}
+use Rattle.answers.specs.Expected.{foundDay}
 use Rattle.agreement.specs.CallsAgree.{markOf, nextCall, previousCall, NeighbourAnswer, Next, Previous}
 
 -- a day of years 1 to 9999
@@ -75,7 +76,7 @@ module _ (market : ℕ) (known : market ≤ 4) (most : ℕ) where
             (neighbour-of-date neighbour market (dateOf n .year) (dateOf n .month) (dateOf n .day) known (date-of-is n (k .0) (k .1))
             ∙ ap (λ (i : ℕ). tradingDayResult (dateOf n .year) i (neighbour i)) (number-of-date n (k .0))
             ∙ ap (tradingDayResult (dateOf n .year) n) q)
-            ∙ ap {B = TradingDayAnswer} (λ (x : ℕ). record { error = 0; date = dateOf m; distance = day .distance; outside = x }) s;
+            ∙ ap (foundDay (dateOf m) (day .distance)) s;
         is-date = date-of-is m (i .0) (i .1);
         trading = ap (isTradingDay market) (number-of-date m (i .0)) ∙ t;
         between = subst₂ (NonTradingBetween (isTradingDay market) most) (sym e) (sym f) b;
