@@ -11,23 +11,17 @@ use Rattle.gregorian.specs.declared.Date.{Date}
 use Rattle.gregorian.specs.Calendar.{leap, leapDay, yearLength, monthLength, total, dayNumber, isDateOf, number, dateOf}
 use Rattle.gregorian.proofs.Total.{total-mono, total-next}
 use Rattle.gregorian.proofs.Laws.{DateExists, is-date, day-of-year, number-of-date, number-before}
+use Rattle.markets.specs.Years.{minYear, maxYear, minDay, maxDay}
 use Rattle.ranges.specs.Ranges.{daysFrom, keep, filter, Every}
 use Rattle.ranges.proofs.Lists.{order}
 use Rattle.ranges.proofs.Items.{every-from, every-filter, every-map}
 use Rattle.agreement.specs.CallsAgree.{Ascending, monthNumber}
 
--- the first and the last day of 2020 to 2030
-abbrev pub low : ℕ
-low = dayNumber 2020 1 1
-
-abbrev pub high : ℕ
-high = dayNumber 2030 12 31
-
-year-ends : (suc (total yearLength 2019) ≡ low) × (total yearLength 2030 ≡ high)
+year-ends : (suc (total yearLength (minYear - 1)) ≡ minDay) × (total yearLength maxYear ≡ maxDay)
 unfolding total yearLength leapDay leap monthLength dayNumber
 year-ends = (refl, refl)
 
--- What a date has to do with 2020 to 2030, by its year and by its number.
+-- What a date has to do with the supported years, by its year and by its number.
 module _ (t : Date) (d : isDateOf t ≡ true) where
   exists : DateExists t
   exists = is-date (t .year) (t .month) (t .day) d .exists
@@ -42,17 +36,17 @@ module _ (t : Date) (d : isDateOf t ≡ true) where
   up-to-year y h =
       omega (arith, day-of-year (t .year) (t .month) (t .day) exists, total-next yearLength (t .year) (exists .y-low), total-mono yearLength (t .year) y h)
 
-  pub number-from : 2020 ≤ t .year → low ≤ number t
-  number-from h = omega (arith, year-ends, after-year 2019 h)
+  pub number-from : minYear ≤ t .year → minDay ≤ number t
+  number-from h = omega (arith, year-ends, after-year (minYear - 1) h)
 
-  pub number-to : t .year ≤ 2030 → number t ≤ high
-  number-to h = omega (arith, year-ends, up-to-year 2030 h)
+  pub number-to : t .year ≤ maxYear → number t ≤ maxDay
+  number-to h = omega (arith, year-ends, up-to-year maxYear h)
 
-  pub year-from : low ≤ number t → 2020 ≤ t .year
-  year-from h = ⊎-elim (λ (a : t .year ≤ 2019). absurd (omega (arith, year-ends, up-to-year 2019 a))) (λ (a : 2019 < t .year). a) (order (t .year) 2019)
+  pub year-from : minDay ≤ number t → minYear ≤ t .year
+  year-from h = ⊎-elim (λ (a : t .year ≤ (minYear - 1)). absurd (omega (arith, year-ends, up-to-year (minYear - 1) a))) (λ (a : (minYear - 1) < t .year). a) (order (t .year) (minYear - 1))
 
-  pub year-to : number t ≤ high → t .year ≤ 2030
-  year-to h = ⊎-elim (λ (a : t .year ≤ 2030). a) (λ (a : 2030 < t .year). absurd (omega (arith, year-ends, after-year 2030 a))) (order (t .year) 2030)
+  pub year-to : number t ≤ maxDay → t .year ≤ maxYear
+  year-to h = ⊎-elim (λ (a : t .year ≤ maxYear). a) (λ (a : maxYear < t .year). absurd (omega (arith, year-ends, after-year maxYear a))) (order (t .year) maxYear)
 
 -- The trading days of a range, as dates, ascend.
 pub ascending : (p : ℕ → Bool) (k a : ℕ) → 1 ≤ a → Ascending (map dateOf (filter p (daysFrom a k)))

@@ -14,19 +14,20 @@ use Rattle.gregorian.specs.Calendar.{monthLength, dayNumber, lastYear, lastDay,
 use Rattle.gregorian.proofs.Laws.{date-by, month-low, date-of-number, number-of-date, date-of-is}
 use Rattle.utils.specs.Weekday.{nextMonth, nextYear}
 use Rattle.utils.proofs.WeekdayLaws.{month-end}
-use Rattle.markets.specs.Markets.{isTradingDay}
+use Rattle.markets.specs.Markets.{isMarket, isTradingDay}
+use Rattle.markets.specs.Years.{minYear, maxYear, isSupported}
+use Rattle.markets.proofs.YearLaws.{supported-years}
 use Rattle.ranges.specs.Ranges.{Every, DateRange, joined, limitTo}
 use Rattle.ranges.specs.Agreement.{Tile, listOf}
 use Rattle.ranges.proofs.Lists.{order, filter-map}
 use Rattle.ranges.proofs.Items.{every-each, every-map, every-trading-day, map-same, filter-same}
 use Rattle.error.specs.declared.CountResult.{CountResult}
-use Rattle.calendar.specs.Calls.{isSupported}
 use Rattle.trading_days.specs.Month.{monthList}
 use Rattle.trading_days.proofs.MonthDayLaws.{month-list}
 use Rattle.buffers.proofs.BufferLaws.{overwrite-start}
-use Rattle.range_calls.specs.RangeCalls.{finalBuffer}
-use Rattle.calendar.proofs.CallLaws.{supported-years}
-use Rattle.range_calls.proofs.MonthLaws.{month-of-years, written-ok, written-error}
+use Rattle.checks.specs.Checks.{finalBuffer}
+use Rattle.checks.proofs.CheckLaws.{room-enough, room-short}
+use Rattle.range_calls.proofs.MonthLaws.{month-of-years}
 use Rattle.answers.specs.Answers.{countAnswer}
 use Rattle.answers.proofs.AnswerLaws.{counted-is, too-small-is}
 use Rattle.agreement.specs.CallsAgree.{Month, monthNumber, monthsFrom, Writes, Reads, datesOf, limitToRange}
@@ -84,8 +85,8 @@ tile (suc k) y m y′ m′ o l h l′ h′ u e =
 abbrev pub listed : ℕ → Month → List ℕ
 listed market m = monthList market (m .year) (m .month)
 
--- month m of the year y, one of 2020 to 2030
-module _ (market : ℕ) (known : market ≤ 4) (y m : ℕ) (year : isSupported y ≡ true) (l : 1 ≤ m) (h : m ≤ 12) where
+-- month m of the year y, a supported one
+module _ (market : ℕ) (known : isMarket market ≡ true) (y m : ℕ) (year : isSupported y ≡ true) (l : 1 ≤ m) (h : m ≤ 12) where
   abbrev month : Month
   month = record { year = y; month = m }
 
@@ -94,14 +95,14 @@ module _ (market : ℕ) (known : market ≤ 4) (y m : ℕ) (year : isSupported y
 
   writes : (buffer : List ℕ) → length bytes ≤ length buffer → Writes market month buffer bytes
   writes buffer fits =
-      let ok = month-of-years market y m buffer known year l h ∙ written-ok bytes buffer fits in
+      let ok = month-of-years market y m buffer known year l h ∙ room-enough (length bytes) (length buffer) fits in
       (ap countAnswer ok ∙ counted-is (length bytes), ap (λ (r : CountResult). take (length bytes) (finalBuffer r bytes buffer)) ok ∙ overwrite-start bytes buffer)
 
   reads : (buffer : List ℕ) → Reads market month buffer bytes
   reads buffer =
       ⊎-elim (λ (fits : length bytes ≤ length buffer). inl (writes buffer fits))
       (λ (short : length buffer < length bytes).
-      inr (ap countAnswer (month-of-years market y m buffer known year l h ∙ written-error bytes buffer short) ∙ too-small-is (length bytes), writes))
+      inr (ap countAnswer (month-of-years market y m buffer known year l h ∙ room-short (length bytes) (length buffer) short) ∙ too-small-is (length bytes), writes))
       (order (length bytes) (length buffer))
 
   -- The bytes, as dates, are the trading days of the month.
@@ -119,14 +120,14 @@ module _ (market : ℕ) (known : market ≤ 4) (y m : ℕ) (year : isSupported y
 
 -- ---- the months of a range
 
--- the months from January 2020 to December 2030, by their numbers
+-- the months of the supported years, by their numbers
 abbrev pub MonthsInYears : ℕ → ℕ → ℕ → Type 0
-MonthsInYears y m k = (monthNumber 2020 1 ≤ monthNumber y m) × (monthNumber y m + k ≤ suc (monthNumber 2030 12))
+MonthsInYears y m k = (monthNumber minYear 1 ≤ monthNumber y m) × (monthNumber y m + k ≤ suc (monthNumber maxYear 12))
 
-module _ (market : ℕ) (known : market ≤ 4) where
+module _ (market : ℕ) (known : isMarket market ≡ true) where
   supported : (y m k : ℕ) → 1 ≤ m → m ≤ 12 → MonthsInYears y m (suc k) → isSupported y ≡ true
   unfolding isSupported
-  supported y m k l h r = simp (le-leb 2020 y (omega arith), le-leb y 2030 (omega arith))
+  supported y m k l h r = simp (le-leb minYear y (omega arith), le-leb y maxYear (omega arith))
 
   pub all-read : (buffer : Month → List ℕ) (k y m : ℕ) → 1 ≤ m → m ≤ 12 → MonthsInYears y m k → Every (λ i. Reads market i (buffer i) (listed market i)) (monthsFrom y m k)
   all-read buffer zero y m l h r = tt

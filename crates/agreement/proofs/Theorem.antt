@@ -8,9 +8,11 @@ use lib.Dec.{leb}
 use lib.ListN.{length, length-map}
 use native.Mathlib.Omega.{arith}
 use Rattle.gregorian.specs.declared.Date.{Date}
-use Rattle.gregorian.specs.Calendar.{monthLength, dayNumber, firstDay, lastDay, IsDate, isDateOf, number, dayAfter, dateOf, dayBefore}
+use Rattle.gregorian.specs.Calendar.{monthLength, dayNumber, IsDate, isDateOf, number, dayAfter, dateOf, dayBefore}
 use Rattle.gregorian.proofs.Laws.{is-date, date-by, month-low, date-of-number, number-range}
-use Rattle.markets.specs.Markets.{isTradingDay}
+use Rattle.markets.specs.Markets.{isMarket, isTradingDay}
+use Rattle.markets.specs.Years.{minDay, maxDay, firstDayOf, lastDayOf}
+use Rattle.markets.proofs.YearLaws.{supported-years}
 use Rattle.ranges.specs.Ranges.{Every, tradingDays, countTradingDays, joined}
 use Rattle.ranges.specs.Steps.{NextCall, PreviousCall}
 use Rattle.ranges.specs.Agreement.{Traversal, Agreement, Tile, listOf}
@@ -21,13 +23,12 @@ use Rattle.longest_run.specs.MarketAgreement.{longestRun}
 use Rattle.longest_run.proofs.Markets.{bounds, markets-agree}
 use Rattle.answers.specs.Expected.{counted}
 use Rattle.agreement.specs.CallsAgree.{IsRange, tradingDates, Next, Previous, Month, monthNumber, monthsFrom, monthsOf, limitToRange, MonthLists, SplitDates, PartCounts, CallsAgree, AllCallsAgree}
-use Rattle.calendar.proofs.CallLaws.{supported-years}
-use Rattle.agreement.proofs.Dates.{low, high, number-from, number-to, ascending, months-ordered}
+use Rattle.agreement.proofs.Dates.{number-from, number-to, ascending, months-ordered}
 use Rattle.agreement.proofs.Traversals.{IsDay, as-dates, outside-as-dates, next-answer, previous-answer}
 use Rattle.agreement.proofs.Months.{MonthsInYears, monthRange, listed, later-in-month, number-from-day, tile, all-read, joined-dates, are-dates, limited-dates}
 use Rattle.agreement.proofs.Counts.{splits-of, count-answers, empty-part, part-counts}
 
-module _ (market : ℕ) (first last : Date) (known : market ≤ 4) (range : IsRange first last) where
+module _ (market : ℕ) (first last : Date) (known : isMarket market ≡ true) (range : IsRange first last) where
   abbrev trades : ℕ → Bool
   trades = isTradingDay market
 
@@ -43,27 +44,27 @@ module _ (market : ℕ) (first last : Date) (known : market ≤ 4) (range : IsRa
   last-is : IsDate (last .year) (last .month) (last .day)
   last-is = is-date (last .year) (last .month) (last .day) (range .last-date)
 
-  first-low : low ≤ a
+  first-low : minDay ≤ a
   first-low = number-from first (range .first-date) (supported-years (first .year) (range .first-year) .0)
 
-  last-high : b ≤ high
+  last-high : b ≤ maxDay
   last-high = number-to last (range .last-date) (supported-years (last .year) (range .last-year) .1)
 
-  on-days : Agreement trades longestRun firstDay lastDay a b
+  on-days : Agreement trades longestRun (firstDayOf market) (lastDayOf market) a b
   on-days = markets-agree market a b known first-low (range .ordered) last-high
 
   on-forward : Traversal (Next market) (λ t. leb (number t) b) (dayBefore first) (tradingDates market first last)
   on-forward =
-      as-dates (NextCall trades longestRun lastDay) (Next market) (λ m. leb m b) (next-answer market known longestRun) _ _
-      (outside-as-dates (NextCall trades longestRun lastDay) (Next market) (λ m. leb m b) (next-answer market known longestRun))
+      as-dates (NextCall trades longestRun (lastDayOf market)) (Next market) (λ m. leb m b) (next-answer market known longestRun) _ _
+      (outside-as-dates (NextCall trades longestRun (lastDayOf market)) (Next market) (λ m. leb m b) (next-answer market known longestRun))
       (a - 1) (tradingDays trades a b) (omega (arith, bounds, first-low), omega (arith, bounds, range .ordered, last-high)) (on-days .forward)
 
   on-backward : Traversal (Previous market) (λ t. leb a (number t)) (dayAfter last) (reverse (tradingDates market first last))
   unfolding dateOf
   on-backward =
       subst₂ (Traversal (Previous market) (λ t. leb a (number t))) (ap dayAfter (date-of-number last (last-is .exists))) (map-reverse dateOf (tradingDays trades a b))
-      (as-dates (PreviousCall trades longestRun firstDay) (Previous market) (λ m. leb a m) (previous-answer market known longestRun) _ _
-      (outside-as-dates (PreviousCall trades longestRun firstDay) (Previous market) (λ m. leb a m) (previous-answer market known longestRun))
+      (as-dates (PreviousCall trades longestRun (firstDayOf market)) (Previous market) (λ m. leb a m) (previous-answer market known longestRun) _ _
+      (outside-as-dates (PreviousCall trades longestRun (firstDayOf market)) (Previous market) (λ m. leb a m) (previous-answer market known longestRun))
       (suc b) (reverse (tradingDays trades a b)) (omega arith, omega (arith, bounds, last-high)) (on-days .backward))
 
   -- ---- the months

@@ -7,19 +7,20 @@ use mathlib.Core.List.{List, map}
 use lib.ListN.{length}
 use native.Mathlib.Omega.{arith}
 use Rattle.gregorian.specs.declared.Date.{Date}
-use Rattle.gregorian.specs.Calendar.{firstDay, lastDay, number, dateOf}
+use Rattle.gregorian.specs.Calendar.{number, dateOf}
 use Rattle.gregorian.proofs.Laws.{number-of-date, date-of-is}
 use Rattle.utils.specs.declared.OptionalDay.{OptionalDay}
 use Rattle.utils.specs.declared.OptionalDay.the-variants.{Day}
 use Rattle.utils.specs.Weekday.{InYears}
-use Rattle.markets.specs.Markets.{isTradingDay}
+use Rattle.markets.specs.Markets.{isMarket, isTradingDay}
+use Rattle.markets.specs.Years.{isSupported, firstDayOf, lastDayOf}
+use Rattle.markets.proofs.YearLaws.{searched-days}
 use Rattle.ranges.specs.Ranges.{daysBetween, nextTradingDay, previousTradingDay}
 use Rattle.ranges.specs.Steps.{NonTradingBetween, NextCall, PreviousCall}
 use Rattle.ranges.specs.Agreement.{TraversalTo, EndsOutside, Traversal}
 use Rattle.ranges.proofs.Lists.{between-length}
 use Rattle.ranges.proofs.StepLaws.{next-in-years, previous-in-years}
 use Rattle.ranges.proofs.Traversals.{traversal-map, outside-map, traversal-unique, outside-ends}
-use Rattle.calendar.specs.Calls.{isSupported}
 use Rattle.range_calls.specs.RangeCalls.{distanceOf, tradingDay, tradingDayResult, neighbourResult}
 use Rattle.range_calls.proofs.RangeLaws.{to-later, to-earlier, neighbour-of-date}
 use Rattle.answers.specs.declared.neighbours.TradingDayAnswer.{TradingDayAnswer}
@@ -58,7 +59,7 @@ mark-is s t = by (isSupported (s .year)) (isSupported (t .year))
     by false true = (refl, refl)
     by false false = (refl, refl)
 
-module _ (market : ℕ) (known : market ≤ 4) (most : ℕ) where
+module _ (market : ℕ) (known : isMarket market ≡ true) (most : ℕ) where
   -- Where the neighbour of day n is day m, the call on the date of n answers the date of m.
   answered : (neighbour : ℕ → OptionalDay) (n m earlier later : ℕ) → IsDay n → IsDay m → 1 ≤ earlier → neighbour n ≡ Day m → isTradingDay market m ≡ true
       → distanceOf n m ≡ later - earlier → mark (dateOf n) (dateOf m) ≡ markOf (dateOf earlier) (dateOf later) → NonTradingBetween (isTradingDay market) most earlier later
@@ -84,18 +85,18 @@ module _ (market : ℕ) (known : market ≤ 4) (most : ℕ) where
         difference = omega (arith, d, e, f);
       }
 
-  pub next-answer : (n m : ℕ) → IsDay n → NextCall (isTradingDay market) most lastDay n m
+  pub next-answer : (n m : ℕ) → IsDay n → NextCall (isTradingDay market) most (lastDayOf market) n m
       → IsDay m × NeighbourAnswer market most (nextCall market (dateOf n)) (dateOf m) (dateOf n) (dateOf m)
   next-answer n m k c =
-      let i = subst InYears (c .0) (next-in-years (isTradingDay market) n) in
-      (i, answered (nextTradingDay (isTradingDay market) lastDay) n m n m k i (k .0) (c .0) (c .1) (sym (to-later n m (m - n) (c .2 .ordered) refl)) (mark-is (dateOf n) (dateOf m) .0) (c .2))
+      let i = subst InYears (c .0) (next-in-years (isTradingDay market) (lastDayOf market) n (searched-days market .1)) in
+      (i, answered (nextTradingDay (isTradingDay market) (lastDayOf market)) n m n m k i (k .0) (c .0) (c .1) (sym (to-later n m (m - n) (c .2 .ordered) refl)) (mark-is (dateOf n) (dateOf m) .0) (c .2))
 
-  pub previous-answer : (n m : ℕ) → IsDay n → PreviousCall (isTradingDay market) most firstDay n m
+  pub previous-answer : (n m : ℕ) → IsDay n → PreviousCall (isTradingDay market) most (firstDayOf market) n m
       → IsDay m × NeighbourAnswer market most (previousCall market (dateOf n)) (dateOf m) (dateOf m) (dateOf n)
   previous-answer n m k c =
-      let i = subst InYears (c .0) (previous-in-years (isTradingDay market) n (k .1)) in
+      let i = subst InYears (c .0) (previous-in-years (isTradingDay market) (firstDayOf market) n (searched-days market .0) (k .1)) in
       let down = c .2 .ordered in
-      (i, answered (previousTradingDay (isTradingDay market) firstDay) n m m n k i (i .0) (c .0) (c .1) (sym (to-earlier n m (n - m) (omega arith) refl)) (mark-is (dateOf n) (dateOf m) .1) (c .2))
+      (i, answered (previousTradingDay (isTradingDay market) (firstDayOf market)) n m m n k i (i .0) (c .0) (c .1) (sym (to-earlier n m (n - m) (omega arith) refl)) (mark-is (dateOf n) (dateOf m) .1) (c .2))
 
 -- A call has one answer, and so the traversal lists no other dates.
 one-date : (market most : ℕ) (r : TradingDayAnswer) (s t earlier later earlier′ later′ : Date) → NeighbourAnswer market most r s earlier later → NeighbourAnswer market most r t earlier′ later′ → s ≡ t

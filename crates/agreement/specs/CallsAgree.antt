@@ -10,11 +10,11 @@ use lib.ListN.{length, take}
 use Rattle.gregorian.specs.declared.Date.{Date}
 use Rattle.gregorian.specs.Calendar.{isDateOf, date, number, dayAfter, dateOf, dayBefore}
 use Rattle.utils.specs.Weekday.{nextMonth, nextYear}
-use Rattle.markets.specs.Markets.{isTradingDay}
+use Rattle.markets.specs.Markets.{isMarket, isTradingDay}
+use Rattle.markets.specs.Years.{isSupported}
 use Rattle.ranges.specs.Ranges.{daysBetween, filter, Every, tradingDays, sumOf, joined}
 use Rattle.ranges.specs.Steps.{NonTradingBetween}
 use Rattle.ranges.specs.Agreement.{Traversal}
-use Rattle.calendar.specs.Calls.{isSupported}
 use Rattle.range_calls.specs.RangeCalls.{nextTradingDayResult, previousTradingDayResult, tradingDaysInMonthResult, tradingDaysInMonthBuffer, countTradingDaysResult}
 use Rattle.answers.specs.declared.neighbours.TradingDayAnswer.{TradingDayAnswer}
 use Rattle.answers.specs.declared.counts.CountAnswer.{CountAnswer}
@@ -23,7 +23,7 @@ use Rattle.answers.specs.Expected.{foundDay, counted, tooSmall}
 
 -- ---- the range
 
--- [agreement-range]: a range ("stretch") goes from a first to a last date, two dates of 2020 to 2030 in order
+-- [agreement-range]: a range ("stretch") goes from a first to a last date, two dates of the supported years in order
 pub record IsRange (first last : Date) : Type 0 where
   pub first-date : isDateOf first ≡ true
   pub first-year : isSupported (first .year) ≡ true
@@ -48,7 +48,7 @@ nextCall market t = tradingDayAnswer (nextTradingDayResult market (t .year) (t .
 abbrev pub previousCall : ℕ → Date → TradingDayAnswer
 previousCall market t = tradingDayAnswer (previousTradingDayResult market (t .year) (t .month) (t .day))
 
--- [outside]: the mark of a call, set if the date given or the answer is outside 2020 to 2030
+-- [outside]: the mark of a call, set if the date given or the answer is outside the supported years
 abbrev pub markOf : Date → Date → ℕ
 markOf s t = cond (isSupported (s .year) && isSupported (t .year)) 0 1
 
@@ -173,6 +173,6 @@ pub record CallsAgree (market : ℕ) (first last : Date) : Type 0 where
   pub empty-part : (split : Date) → isDateOf split ≡ true → number first ≤ number split → number split ≤ suc (number last)
       → countCall market split (dayBefore split) ≡ counted 0
 
--- [agreement], for codes 0 to 4 and every range
+-- [agreement], for every market and every range
 abbrev pub AllCallsAgree : Type 0
-AllCallsAgree = (market : ℕ) (first last : Date) → market ≤ 4 → IsRange first last → CallsAgree market first last
+AllCallsAgree = (market : ℕ) (first last : Date) → isMarket market ≡ true → IsRange first last → CallsAgree market first last

@@ -1,16 +1,15 @@
 -- What is known of a day in any of years 1 to 9999: docs/SCOPE.md [is-holiday], [trading-day]. Assumes nothing.
 use Prim.Native.Nat.{ℕ}
 use mathlib.Core.Bool.{true, false, cond, _&&_}
-use lib.Dec.{leb}
 use Rattle.gregorian.specs.Calendar.{isDate, dayNumber}
 use Rattle.utils.specs.declared.OptionalDay.{OptionalDay}
 use Rattle.utils.specs.declared.OptionalDay.the-variants.{Day, None}
-use Rattle.markets.specs.Markets.{isTradingDay, isHoliday}
+use Rattle.markets.specs.Markets.{isMarket, isTradingDay, isHoliday}
 use Rattle.all_years.specs.declared.DayAnswer.{DayAnswer}
 
--- the day number of a date, for one of the five markets
+-- the day number of a date, of a market
 unfoldable pub knownDay : ℕ → ℕ → ℕ → ℕ → OptionalDay
-knownDay market year month day = cond (leb market 4 && isDate year month day) (Day (dayNumber year month day)) None
+knownDay market year month day = cond (isMarket market && isDate year month day) (Day (dayNumber year month day)) None
 
 -- A known day, and whether it is a holiday and a trading day; of none every field is false.
 abbrev pub dayAnswer : ℕ → OptionalDay → DayAnswer

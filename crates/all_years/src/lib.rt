@@ -17,7 +17,7 @@ pub struct DayAnswer {
 fn known_day(market: u32, year: u32, month: u32, day: u32) -> OptionalDay
     ensures { λ r. ⌜ (r ≡ knownDay market year month day) × InYears r ⌝ }
 {
-    if markets::LAST_MARKET < market {
+    if !markets::is_market(market) {
         return OptionalDay::None;
     }
     if gregorian::is_date(year, month, day) {

@@ -42,7 +42,7 @@ unfoldable pub tradingDayAnswer : TradingDayResult → TradingDayAnswer
 tradingDayAnswer (TradingDayResult.Ok d) = record { error = 0; date = d .date; distance = d .distance; outside = flagOf (d .outside) }
 tradingDayAnswer (TradingDayResult.Err e) = record { error = errorNumber e; date = errorDate e; distance = 0; outside = 0 }
 
--- Without an error, the number; an error has its number, the number of bytes that error 9 returns, and the date that error 1 does. Every
+-- Without an error, the number; an error has its number, the number of entries that error 9 returns, and the date that error 1 does. Every
 -- other field is 0.
 unfoldable pub countAnswer : CountResult → CountAnswer
 countAnswer (CountResult.Ok n) = record { error = 0; count = n; date = noDate }

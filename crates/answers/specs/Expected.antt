@@ -23,7 +23,7 @@ isNo = record { error = 0; value = 0; date = noDate }
 abbrev pub foundDay : Date → ℕ → ℕ → TradingDayAnswer
 foundDay t distance mark = record { error = 0; date = t; distance = distance; outside = mark }
 
--- a count, of days or of bytes
+-- a count, of days or of entries
 abbrev pub counted : ℕ → CountAnswer
 counted n = record { error = 0; count = n; date = noDate }
 
@@ -33,6 +33,6 @@ counted n = record { error = 0; count = n; date = noDate }
 abbrev pub outOfRange : Date → CountAnswer
 outOfRange t = record { error = 1; count = 0; date = t }
 
--- error 9, with the number of bytes needed
+-- error 9, with the number of entries needed
 abbrev pub tooSmall : ℕ → CountAnswer
 tooSmall n = record { error = 9; count = n; date = noDate }

@@ -6,7 +6,7 @@ use gregorian::Date;
 use gregorian::NO_DATE;
 
 // tc_count_result of the header, [host-answers]: error is 0 and count is the answer; or error is a number of [errors], count the
-// number of bytes that error 9 returns, and date what error 1 returns.
+// number of entries that error 9 returns, and date what error 1 returns.
 #[repr(C)]
 pub struct CountAnswer {
     pub error: u32,
@@ -23,10 +23,14 @@ pub fn count_answer(result: CountResult) -> CountAnswer
             count,
             date: NO_DATE,
         },
-        CountResult::Err(e) => CountAnswer {
-            error: error::number(e),
-            count: error::count(e),
-            date: error::date(e),
-        },
+        CountResult::Err(e) => {
+            let fields = error::fields(e);
+            let date = fields.date;
+            CountAnswer {
+                error: fields.number,
+                count: fields.count,
+                date,
+            }
+        }
     }
 }

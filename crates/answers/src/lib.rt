@@ -59,7 +59,12 @@ pub fn nth_weekday_answer(year: u32, month: u32, weekday: u32, nth: u8) -> Optio
     optional_date(nth_weekday_of_month(year, month, weekday, nth))
 }
 
-// Easter Sunday, or a day before or after it, by the day of March on which it is where Easter is on the 22nd.
+// The days of March on which the two days beside Easter are at the earliest.
+pub const EARLIEST_GOOD_FRIDAY: u32 = 20;
+
+pub const EARLIEST_EASTER_MONDAY: u32 = 23;
+
+// Easter Sunday, or a day before or after it, by the day of March on which it is at the earliest, as Easter on the 22nd.
 pub fn easter_answer(year: u32, march_day: u32) -> OptionalDate
     requires { ⌜ (1 ≤ «march_day») × («march_day» ≤ 27) ⌝ }
     ensures { λ r. ⌜ r ≡ optionalDate (mapDay (λ n. n + «march_day» - 22) (calculateEaster year)) ⌝ }
@@ -101,10 +106,14 @@ pub fn bool_answer(result: BoolResult) -> BoolAnswer
             value: flag(yes),
             date: NO_DATE,
         },
-        BoolResult::Err(e) => BoolAnswer {
-            error: error::number(e),
-            value: 0,
-            date: error::date(e),
-        },
+        BoolResult::Err(e) => {
+            let fields = error::fields(e);
+            let date = fields.date;
+            BoolAnswer {
+                error: fields.number,
+                value: 0,
+                date,
+            }
+        }
     }
 }

@@ -28,11 +28,15 @@ pub fn trading_day_answer(result: TradingDayResult) -> TradingDayAnswer
                 outside: flag(day.outside),
             }
         }
-        TradingDayResult::Err(e) => TradingDayAnswer {
-            error: error::number(e),
-            date: error::date(e),
-            distance: 0,
-            outside: 0,
-        },
+        TradingDayResult::Err(e) => {
+            let fields = error::fields(e);
+            let date = fields.date;
+            TradingDayAnswer {
+                error: fields.number,
+                date,
+                distance: 0,
+                outside: 0,
+            }
+        }
     }
 }

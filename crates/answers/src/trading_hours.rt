@@ -35,10 +35,13 @@ pub fn time_answer(result: TimeResult) -> TimeAnswer
 {
     match result {
         TimeResult::Ok(seconds) => TimeAnswer { error: 0, seconds },
-        TimeResult::Err(e) => TimeAnswer {
-            error: error::number(e),
-            seconds: 0,
-        },
+        TimeResult::Err(e) => {
+            let fields = error::fields(e);
+            TimeAnswer {
+                error: fields.number,
+                seconds: 0,
+            }
+        }
     }
 }
 
@@ -47,10 +50,13 @@ pub fn session_answer(result: SessionResult) -> SessionAnswer
 {
     match result {
         SessionResult::Ok(session) => SessionAnswer { error: 0, session },
-        SessionResult::Err(e) => SessionAnswer {
-            error: error::number(e),
-            session: NO_SESSION,
-        },
+        SessionResult::Err(e) => {
+            let fields = error::fields(e);
+            SessionAnswer {
+                error: fields.number,
+                session: NO_SESSION,
+            }
+        }
     }
 }
 
@@ -62,9 +68,12 @@ pub fn hours_answer(result: HoursResult) -> HoursAnswer
             error: 0,
             hours: hours_of(hours),
         },
-        HoursResult::Err(e) => HoursAnswer {
-            error: error::number(e),
-            hours: NO_HOURS,
-        },
+        HoursResult::Err(e) => {
+            let fields = error::fields(e);
+            HoursAnswer {
+                error: fields.number,
+                hours: NO_HOURS,
+            }
+        }
     }
 }

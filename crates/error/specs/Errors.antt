@@ -10,7 +10,7 @@ use Rattle.error.specs.declared.CalendarError.the-variants.{MalformedTex
 abbrev pub onlyNumber : ℕ → ErrorFields
 onlyNumber n = record { number = n; count = 0; date = noDate }
 
--- The number of each error, the number of bytes that is returned with error 9 and the date with error 1. InvalidDateCalculation is the
+-- The number of each error, the number of entries that is returned with error 9 and the date with error 1. InvalidDateCalculation is the
 -- error of a month that is none, and InvalidTime that of an early close that is not before the regular end, as in the Rust.
 unfoldable pub errorFields : CalendarError → ErrorFields
 errorFields MalformedText = onlyNumber 10

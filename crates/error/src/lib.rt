@@ -1,11 +1,11 @@
 // The errors of the calls, as src/error.rs of the Rust. Labels in brackets are those of docs/SCOPE.md.
 ghost use mathlib.Core.Path.{_≡_};
-ghost use Rattle.error.specs.Errors.{onlyNumber, errorFields, errorNumber, errorCount, errorDate};
+ghost use Rattle.error.specs.Errors.{onlyNumber, errorFields};
 use gregorian::Date;
 use gregorian::NO_DATE;
 
 // In the order of [errors]. The first four are added, as the Rust has no month sheet and its types no such market, date or time; and
-// so is BufferTooSmall, which holds the number of bytes that the answer takes.
+// so is BufferTooSmall, which holds the number of entries that the answer takes.
 pub enum CalendarError {
     MalformedText,
     UnknownMarket,
@@ -35,12 +35,12 @@ pub enum CountResult {
     Err(CalendarError),
 }
 
-// [errors]: the number of an error, the number of bytes returned with error 9, and the date returned with error 1; 0 and no date
+// [errors]: the number of an error, the number of entries returned with error 9, and the date returned with error 1; 0 and no date
 // where nothing is returned [reading-nothing].
-struct ErrorFields {
-    number: u32,
-    count: u32,
-    date: Date,
+pub struct ErrorFields {
+    pub number: u32,
+    pub count: u32,
+    pub date: Date,
 }
 
 // An error with which nothing is returned.
@@ -54,7 +54,7 @@ fn only_number(number: u32) -> ErrorFields
     }
 }
 
-fn fields(e: CalendarError) -> ErrorFields
+pub fn fields(e: CalendarError) -> ErrorFields
     ensures { λ r. ⌜ r ≡ errorFields e ⌝ }
 {
     match e {
@@ -77,25 +77,4 @@ fn fields(e: CalendarError) -> ErrorFields
         CalendarError::InvalidSession => only_number(3),
         CalendarError::InvalidTime => only_number(4),
     }
-}
-
-pub fn number(e: CalendarError) -> u32
-    ensures { λ r. ⌜ r ≡ errorNumber e ⌝ }
-{
-    let fields = fields(e);
-    fields.number
-}
-
-pub fn count(e: CalendarError) -> u32
-    ensures { λ r. ⌜ r ≡ errorCount e ⌝ }
-{
-    let fields = fields(e);
-    fields.count
-}
-
-pub fn date(e: CalendarError) -> Date
-    ensures { λ r. ⌜ r ≡ errorDate e ⌝ }
-{
-    let fields = fields(e);
-    fields.date
 }

@@ -8,20 +8,20 @@ use lib.Dec.{ltb, leb, eqb}
 use native.Mathlib.Omega.{arith}
 use borrow.Author.Tests.{ltb-true, leb-true, eqb-true}
 use Rattle.gregorian.specs.declared.Date.{Date}
-use Rattle.gregorian.specs.Calendar.{total, yearLength, lastYear, lastDay, isDateOf, number, dateOf}
+use Rattle.gregorian.specs.Calendar.{total, yearLength, lastYear, isDateOf, number, dateOf}
 use Rattle.gregorian.proofs.Tests.{and-left, and-right}
 use Rattle.gregorian.proofs.Laws.{is-date, date-of-number}
 use Rattle.utils.specs.declared.OptionalDay.{OptionalDay}
 use Rattle.utils.specs.declared.OptionalDay.the-variants.{Day, None}
 use Rattle.days.specs.Days.{contains}
 use Rattle.markets.specs.Markets.{holidays, isWeekend, isHoliday, isTradingDay}
+use Rattle.markets.specs.Years.{isSupported, lastDayOf}
 use Rattle.ranges.specs.Ranges.{daysFrom, found, find, nextTradingDay}
 use Rattle.ranges.proofs.Lists.{from-split}
 use Rattle.longest_run.specs.MarketAgreement.{longestRun}
 use Rattle.longest_run.proofs.ClosedForms.{closedHolidays, closed-holidays}
 use Rattle.longest_run.proofs.Years.{before, in-year}
 use Rattle.range_calls.specs.declared.TradingDayResult.{TradingDayResult}
-use Rattle.calendar.specs.Calls.{isSupported}
 use Rattle.range_calls.specs.RangeCalls.{distanceOf, tradingDay, tradingDayResult}
 use Rattle.answers.specs.declared.OptionalDate.{OptionalDate}
 use Rattle.answers.specs.Answers.{optionalDate}
@@ -115,13 +115,13 @@ module _ (trades : ℕ → Bool) where
       ∙ find-append (daysFrom a (min i k)) (daysFrom (a + min i k) (k - min i k))
 
 -- The search of as many days as a run may have, and one more; and its answer, where t is the date that is expected.
-unfoldable pub closedNext : (market y n : ℕ) → (o : OptionalDay) × (nextTradingDay (isTradingDay market) lastDay n ≡ o)
+unfoldable pub closedNext : (market y n : ℕ) → (o : OptionalDay) × (nextTradingDay (isTradingDay market) (lastDayOf market) n ≡ o)
 unfolding tradingRule find daysFrom
 closedNext market y n =
     let rule = tradingRule market y in
-    (_, ap (λ (trades : ℕ → Bool). nextTradingDay trades lastDay n) (rule .1) ∙ find-early (rule .0) (suc longestRun) (suc lastDay - suc n) (suc n))
+    (_, ap (λ (trades : ℕ → Bool). nextTradingDay trades (lastDayOf market) n) (rule .1) ∙ find-early (rule .0) (suc longestRun) (suc (lastDayOf market) - suc n) (suc n))
 
-unfoldable pub closedNextResult : (market y : ℕ) (t : Date) (n : ℕ) → (r : TradingDayResult) × (tradingDayResult y n (nextTradingDay (isTradingDay market) lastDay n) ≡ r)
+unfoldable pub closedNextResult : (market y : ℕ) (t : Date) (n : ℕ) → (r : TradingDayResult) × (tradingDayResult y n (nextTradingDay (isTradingDay market) (lastDayOf market) n) ≡ r)
 unfolding closedNext closedNeighbour
 closedNextResult market y t n =
     let next = closedNext market y n in

@@ -2,18 +2,19 @@
 -- Assumes nothing.
 use Prim.Native.Nat.{ℕ}
 use mathlib.Core.Path.{_≡_, refl, ap, _∙_}
-use mathlib.Core.Bool.{Bool, true, cond, _||_}
+use mathlib.Core.Bool.{Bool, true, cond, not}
 use mathlib.Core.List.{List, [], _∷_, map}
-use lib.Dec.{ltb}
 use Rattle.gregorian.specs.declared.Date.{Date}
 use Rattle.utils.specs.Easter.{calculateEaster}
-use Rattle.ranges.specs.Ranges.{Every, countFrom, countTradingDays}
+use Rattle.markets.specs.Markets.{isMarket}
+use Rattle.markets.specs.Years.{isSupported, lastDayOf}
+use Rattle.ranges.specs.Ranges.{daysFrom, Every, countFrom, countTradingDays}
 use Rattle.error.specs.declared.BoolResult.{BoolResult}
 use Rattle.error.specs.declared.CountResult.{CountResult}
-use Rattle.error.specs.declared.CalendarError.the-variants.{DateOutOfRange}
+use Rattle.error.specs.declared.CalendarError.the-variants.{UnknownMarket}
 use Rattle.error.specs.Errors.{errorFields}
 use Rattle.range_calls.specs.declared.TradingDayResult.{TradingDayResult}
-use Rattle.calendar.specs.Calls.{isSupported, tryDay, checkedDay, supportedDay}
+use Rattle.checks.specs.Checks.{checkedDay, tryDay, supportedDay, checkedRange, tryRange}
 use Rattle.range_calls.specs.RangeCalls.{distanceOf}
 use Rattle.answers.specs.declared.BoolAnswer.{BoolAnswer}
 use Rattle.answers.specs.declared.neighbours.TradingDayAnswer.{TradingDayAnswer}
@@ -34,10 +35,8 @@ nextBy market t next = tradingDayAnswer (tryDay (checkedDay market (t .year) (t 
 abbrev countBy : ℕ → Date → Date → (ℕ → Bool) → CountAnswer
 countBy market s t trades =
     countAnswer
-    (tryDay (checkedDay market (s .year) (s .month) (s .day)) CountResult.Err
-    (λ start. tryDay (checkedDay market (t .year) (t .month) (t .day)) CountResult.Err
-    (λ end. cond (ltb (s .year) 2020 || ltb 2030 (t .year)) (CountResult.Err (DateOutOfRange s))
-    (CountResult.Ok (countTradingDays trades start end)))))
+    (cond (not (isMarket market)) (CountResult.Err UnknownMarket)
+    (tryRange (checkedRange s t) CountResult.Err (λ start end. CountResult.Ok (countTradingDays trades start end))))
 
 -- ---- the test
 
@@ -63,7 +62,7 @@ all-hold [] q = tt
 all-hold (e ∷ rows) q = (holds e cc, all-hold rows cc)
 
 all-computed : map computed examples ≡ examples
-unfolding computed holidayRule tradingRule closedOptional closedNextResult countFrom distanceOf isSupported checkedDay supportedDay flagOf boolAnswer tradingDayAnswer countAnswer errorFields
+unfolding daysFrom computed holidayRule tradingRule closedOptional closedNextResult countFrom distanceOf isMarket isSupported lastDayOf checkedDay supportedDay checkedRange flagOf boolAnswer tradingDayAnswer countAnswer errorFields
 all-computed = refl
 
 pub examples-hold : ExamplesHold

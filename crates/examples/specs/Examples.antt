@@ -1,11 +1,13 @@
 -- The dates of docs/SCOPE.md [examples] that are proved, in one table. Assumes nothing.
 use Prim.Native.Nat.{ℕ}
 use mathlib.Core.Path.{_≡_}
-use mathlib.Core.List.{List, [], _∷_, _++_, map}
+use mathlib.Core.List.{List, _∷_, _++_, map}
+use lib.ListN.{length}
 use Rattle.gregorian.specs.declared.Date.{Date}
 use Rattle.gregorian.specs.Calendar.{date}
 use Rattle.utils.specs.Easter.{calculateEaster}
-use Rattle.ranges.specs.Ranges.{Every}
+use Rattle.markets.specs.Markets.{holidaysByCode}
+use Rattle.ranges.specs.Ranges.{daysFrom, Every}
 use Rattle.calendar.specs.Calls.{isTradingDayResult, isHolidayResult}
 use Rattle.range_calls.specs.RangeCalls.{nextTradingDayResult, countTradingDaysResult}
 use Rattle.answers.specs.declared.OptionalDate.{OptionalDate}
@@ -45,9 +47,9 @@ tse = 3
 abbrev pub tsx : ℕ
 tsx = 4
 
--- a row that names no market, for each of them
+-- a row that names no market, for the code of each
 abbrev pub forEachMarket : (ℕ → Example) → List Example
-forEachMarket row = map row (0 ∷ 1 ∷ 2 ∷ 3 ∷ 4 ∷ [])
+forEachMarket row = map row (daysFrom 0 (length holidaysByCode))
 
 -- the rows of [examples], in its order
 abbrev pub examples : List Example

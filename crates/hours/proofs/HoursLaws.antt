@@ -9,19 +9,19 @@ use Rattle.schedule.specs.declared.TradingHours.{TradingHours}
 use Rattle.schedule.specs.declared.HoursResult.{HoursResult}
 use Rattle.hours.specs.Calls.{hasTimes, checkedHours, tryHours}
 
-module _ (hours : TradingHours) (inRange : Bool) where
+module _ (hours : TradingHours) (timeInRange : Bool) where
   abbrev date-is : Bool
   date-is = isDate (hours .date .year) (hours .date .month) (hours .date .day)
 
-  pub error-5 : date-is ≡ false → HoursResult.Err InvalidDate ≡ checkedHours hours inRange
+  pub error-5 : date-is ≡ false → HoursResult.Err InvalidDate ≡ checkedHours hours timeInRange
   unfolding checkedHours
   error-5 d = simp d
 
-  pub error-7 : date-is ≡ true → (hasTimes hours && inRange) ≡ false → HoursResult.Err TimeOutOfRange ≡ checkedHours hours inRange
+  pub error-7 : date-is ≡ true → (hasTimes hours && timeInRange) ≡ false → HoursResult.Err TimeOutOfRange ≡ checkedHours hours timeInRange
   unfolding checkedHours
   error-7 d t = simp (d, t)
 
-  pub checked : date-is ≡ true → (hasTimes hours && inRange) ≡ true → HoursResult.Ok hours ≡ checkedHours hours inRange
+  pub checked : date-is ≡ true → (hasTimes hours && timeInRange) ≡ true → HoursResult.Ok hours ≡ checkedHours hours timeInRange
   unfolding checkedHours
   checked d t = simp (d, t)
 

@@ -1,7 +1,6 @@
 -- The calls of src/schedule.rs on any numbers: docs/SCOPE.md [session-new] to [is-open-at], [errors]. Assumes nothing.
 use Prim.Native.Nat.{ℕ}
 use mathlib.Core.Bool.{Bool, true, cond, not, _&&_}
-use lib.Dec.{leb}
 use Rattle.gregorian.specs.declared.Date.{Date}
 use Rattle.gregorian.specs.Calendar.{isDate}
 use Rattle.error.specs.declared.BoolResult.{BoolResult}
@@ -14,11 +13,8 @@ use Rattle.schedule.specs.declared.OptionalSession.{OptionalSession}
 use Rattle.schedule.specs.declared.OptionalTime.{OptionalTime}
 use Rattle.schedule.specs.declared.TradingHours.{TradingHours}
 use Rattle.schedule.specs.declared.HoursResult.{HoursResult}
+use Rattle.checks.specs.Checks.{isTime}
 use Rattle.schedule.specs.Schedule.{session, sessionNew, contains, hoursNew, withEarlyClose, isEarlyClose, marketClose, isOpenAt}
-
--- a second of the day
-unfoldable pub isTime : ℕ → Bool
-isTime time = leb time 86399
 
 -- both numbers are times
 abbrev pub isSession : Session → Bool
@@ -41,12 +37,12 @@ hasTimes hours =
     && isOptionalSession (hours .«after_hours»)
     && isOptionalTime (hours .«early_close»)
 
--- Errors 5 and 7 of an hours record, in the order of [errors]; `inRange` is whether the time beside it is one, and true for a
--- call that takes none.
+-- Errors 5 and 7 of an hours record, in the order of [errors]; `timeInRange` is whether the time beside it is one, and true for a call
+-- that takes none.
 unfoldable pub checkedHours : TradingHours → Bool → HoursResult
-checkedHours hours inRange =
+checkedHours hours timeInRange =
     cond (not (isDate (hours .date .year) (hours .date .month) (hours .date .day))) (HoursResult.Err InvalidDate)
-    (cond (not (hasTimes hours && inRange)) (HoursResult.Err TimeOutOfRange)
+    (cond (not (hasTimes hours && timeInRange)) (HoursResult.Err TimeOutOfRange)
     (HoursResult.Ok hours))
 
 -- the Rust's `?`, and what follows it: an error is handed on

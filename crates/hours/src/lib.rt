@@ -1,9 +1,10 @@
 // The calls of src/schedule.rs of the Rust, with the checks of the numbers that a session or an hours record holds. Labels in
 // brackets are those of docs/SCOPE.md.
 ghost use mathlib.Core.Path.{_≡_};
-ghost use Rattle.hours.specs.Calls.{isTime, isSession, isOptionalSession, isOptionalTime, hasTimes, checkedHours};
+ghost use Rattle.hours.specs.Calls.{isSession, isOptionalSession, isOptionalTime, hasTimes, checkedHours};
 ghost use Rattle.hours.specs.Calls.{sessionNewResult, sessionContainsResult, tradingHoursNewResult, withEarlyCloseResult};
 ghost use Rattle.hours.specs.Calls.{isEarlyCloseResult, marketCloseResult, isOpenAtResult};
+use checks::is_time;
 use error::BoolResult;
 use error::CalendarError;
 use error::TimeResult;
@@ -14,16 +15,6 @@ use schedule::OptionalTime;
 use schedule::Session;
 use schedule::SessionResult;
 use schedule::TradingHours;
-
-// The last second of the day.
-const LAST_TIME: u32 = 86399;
-
-// [time]
-pub fn is_time(time: u32) -> bool
-    ensures { λ r. ⌜ r ≡ isTime time ⌝ }
-{
-    time <= LAST_TIME
-}
 
 // Whether each number is a time; an absent part has none.
 fn is_session(session: Session) -> bool
@@ -64,12 +55,12 @@ fn has_times(hours: TradingHours) -> bool
 }
 
 // [errors]: the first of 5 and 7 that applies, or the hours. A call that takes no time has none out of range.
-fn checked_hours(hours: TradingHours, in_range: bool) -> HoursResult
-    ensures { λ r. ⌜ r ≡ checkedHours hours «in_range» ⌝ }
+fn checked_hours(hours: TradingHours, time_in_range: bool) -> HoursResult
+    ensures { λ r. ⌜ r ≡ checkedHours hours «time_in_range» ⌝ }
 {
     let date = hours.date;
     let is_date = gregorian::is_date(date.year, date.month, date.day);
-    let has_times = has_times(hours) & in_range;
+    let has_times = has_times(hours) & time_in_range;
     if !is_date {
         return HoursResult::Err(CalendarError::InvalidDate);
     }

@@ -1,20 +1,24 @@
 -- The longest run of non-trading days, and the agreement that follows from it for each market, on day numbers: docs/SCOPE.md
 -- [agreement], [agreement-call]. Assumes nothing.
-use Prim.Native.Nat.{ℕ, _≤_}
-use Rattle.gregorian.specs.Calendar.{firstDay, lastDay, dayNumber}
-use Rattle.markets.specs.Markets.{isTradingDay}
+use Prim.Native.Nat.{ℕ, suc, _-_, _≤_}
+use mathlib.Core.Path.{_≡_}
+use mathlib.Core.Bool.{true}
+use Rattle.gregorian.specs.Calendar.{dayNumber}
+use Rattle.markets.specs.Markets.{isMarket, isTradingDay}
+use Rattle.markets.specs.Years.{minYear, maxYear, minDay, maxDay, firstDayOf, lastDayOf}
 use Rattle.ranges.specs.Steps.{ShortRuns}
 use Rattle.ranges.specs.Agreement.{Agreement}
 
 abbrev pub longestRun : ℕ
 longestRun = 10
 
--- for each market in 2019 to 2031, the years before and after those of the traversals included
+-- for each market, from the year before the supported ones to the year after
 abbrev pub MarketRuns : Type 0
-MarketRuns = (market : ℕ) → market ≤ 4 → ShortRuns (isTradingDay market) longestRun (dayNumber 2019 1 1) (dayNumber 2031 12 31)
+MarketRuns =
+    (market : ℕ) → isMarket market ≡ true → ShortRuns (isTradingDay market) longestRun (dayNumber (minYear - 1) 1 1) (dayNumber (suc maxYear) 12 31)
 
--- for each market and every two dates of 2020 to 2030 in order
+-- for each market and every two dates of the supported years in order
 abbrev pub MarketsAgree : Type 0
 MarketsAgree =
-    (market a b : ℕ) → market ≤ 4 → dayNumber 2020 1 1 ≤ a → a ≤ b → b ≤ dayNumber 2030 12 31
-    → Agreement (isTradingDay market) longestRun firstDay lastDay a b
+    (market a b : ℕ) → isMarket market ≡ true → minDay ≤ a → a ≤ b → b ≤ maxDay
+    → Agreement (isTradingDay market) longestRun (firstDayOf market) (lastDayOf market) a b

@@ -2,3 +2,4 @@ pub mod UsLaws
 pub mod UkLaws
 pub mod CanadaLaws
 pub mod MarketLaws
+pub mod YearLaws

@@ -2,3 +2,4 @@ pub mod Us
 pub mod Uk
 pub mod Canada
 pub mod Markets
+pub mod Years

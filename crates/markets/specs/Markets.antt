@@ -2,8 +2,8 @@
 use Prim.Native.Nat.{ℕ}
 use mathlib.Core.Bool.{Bool, not, _&&_, _||_}
 use mathlib.Core.List.{List, [], _∷_}
-use lib.Dec.{eqb}
-use lib.ListN.{getD}
+use lib.Dec.{ltb, eqb}
+use lib.ListN.{length, getD}
 use Rattle.gregorian.specs.Calendar.{saturday, sunday, dateOf, weekdayOf}
 use Rattle.days.specs.Days.{contains}
 use Rattle.markets.specs.Us.{getUsHolidays}
@@ -15,7 +15,11 @@ use Rattle.japan.specs.Japan.{getJapanHolidays}
 abbrev pub holidaysByCode : List (ℕ → List ℕ)
 holidaysByCode = getUsHolidays ∷ getUsHolidays ∷ getUkHolidays ∷ getJapanHolidays ∷ getCanadaHolidays ∷ []
 
--- The holidays of a market in a year; a code above 4 has none.
+-- [markets]: the codes of that list
+unfoldable pub isMarket : ℕ → Bool
+isMarket market = ltb market (length holidaysByCode)
+
+-- The holidays of a market in a year; any other code has none.
 unfoldable pub holidays : ℕ → ℕ → List ℕ
 holidays market = getD holidaysByCode market (λ year. [])
 

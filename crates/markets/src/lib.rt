@@ -3,11 +3,12 @@
 pub mod canada;
 pub mod uk;
 pub mod us;
+pub mod years;
 
 ghost use mathlib.Core.Path.{_≡_};
 ghost use Prim.Native.Nat.{_≤_};
 ghost use Rattle.gregorian.specs.Calendar.{lastDay, dateOf};
-ghost use Rattle.markets.specs.Markets.{isWeekend, isHoliday, isTradingDay};
+ghost use Rattle.markets.specs.Markets.{isMarket, isWeekend, isHoliday, isTradingDay};
 use canada::holidays::is_canada_holiday;
 use gregorian::SATURDAY;
 use gregorian::SUNDAY;
@@ -28,6 +29,12 @@ pub const TSX: u32 = 4;
 
 pub const LAST_MARKET: u32 = TSX;
 
+pub fn is_market(market: u32) -> bool
+    ensures { λ r. ⌜ r ≡ isMarket market ⌝ }
+{
+    market <= LAST_MARKET
+}
+
 pub fn is_weekend(n: u32) -> bool
     ensures { λ r. ⌜ r ≡ isWeekend n ⌝ }
 {
@@ -35,7 +42,7 @@ pub fn is_weekend(n: u32) -> bool
     (weekday == SATURDAY) | (weekday == SUNDAY)
 }
 
-// [is-holiday]: no code above 4 has holidays. The year is that of day n.
+// [is-holiday]: a code that is no market's has no holidays. The year is that of day n.
 pub fn is_holiday(market: u32, year: u32, n: u32) -> bool
     requires { ⌜ (1 ≤ n) × (n ≤ lastDay) × (year ≡ dateOf n .year) ⌝ }
     ensures { λ r. ⌜ r ≡ isHoliday market n ⌝ }

@@ -10,25 +10,24 @@ use Rattle.decimal.proofs.DecimalLaws.{length-at-most}
 use Rattle.error.specs.declared.CountResult.{CountResult}
 use Rattle.error.specs.Errors.{errorNumber}
 use Rattle.error.proofs.ErrorLaws.{error-number}
-use Rattle.range_calls.specs.RangeCalls.{writtenResult, finalBuffer}
-use Rattle.range_calls.proofs.MonthLaws.{written-ok}
+use Rattle.checks.specs.Checks.{checkedRoom, finalBuffer}
+use Rattle.checks.proofs.CheckLaws.{room-enough}
 use Rattle.answers.specs.declared.counts.CountAnswer.{CountAnswer}
 use Rattle.answers.specs.Answers.{countAnswer}
 use Rattle.request.specs.declared.Request.{Request}
 use Rattle.request.specs.Request.{readRequest}
 use Rattle.sheet.specs.Call.{SheetResult, sheetOfRequest, sheetOf, sheetWritten, sheetBuffer, monthSheetResult, monthSheetBuffer}
-use Rattle.sheet.proofs.CallLaws.{sheet-asked}
-use Rattle.sheet_lines.proofs.SheetLength.{sheet-length}
+use Rattle.sheet.proofs.CallLaws.{sheet-asked, sheet-fits}
 use Rattle.month_sheet.specs.Printed.{refusedLine, printedResult, printed}
 
 -- ---- how long it is
 
--- the sheet of a month, and that of a request
-sheet-fits : (r : Request) (bytes : List ℕ) → sheetOfRequest r ≡ SheetResult.Ok bytes → length bytes ≤ 136
-sheet-fits (Request.Month market year month) bytes e =
+-- the sheet of a request
+request-fits : (r : Request) (bytes : List ℕ) → sheetOfRequest r ≡ SheetResult.Ok bytes → length bytes ≤ 136
+request-fits (Request.Month market year month) bytes e =
     let a = sheet-asked market year month bytes e in
-    omega (arith, ap length (a .1), sheet-length market year month (a .0 .known) (a .0 .supported) (a .0 .is-month))
-sheet-fits Request.Malformed bytes e = absurd (let z : _≡_ {A = ℕ} 0 1 = cc in omega arith)
+    omega (arith, ap length (a .1), sheet-fits market year month (a .0))
+request-fits Request.Malformed bytes e = absurd (let z : _≡_ {A = ℕ} 0 1 = cc in omega arith)
 
 refused-length : (n : ℕ) → n ≤ 10 → length (refusedLine n) ≤ 136
 refused-length n h = simp length-append (omega (arith, length-at-most 1 n (omega arith)))
@@ -42,8 +41,8 @@ module _ (text buffer : List ℕ) (room : 136 ≤ length buffer) (a : CountAnswe
   Prints n final = (n ≡ length (printed text)) × (final ≡ overwrite (printed text) buffer)
 
   -- a sheet fits
-  no-error-9 : (bytes : List ℕ) → sheetOf text ≡ SheetResult.Ok bytes → writtenResult bytes buffer ≡ CountResult.Ok (length bytes)
-  no-error-9 bytes e = written-ok bytes buffer (omega (arith, sheet-fits (readRequest text) bytes e))
+  no-error-9 : (bytes : List ℕ) → sheetOf text ≡ SheetResult.Ok bytes → checkedRoom (length bytes) (length buffer) ≡ CountResult.Ok (length bytes)
+  no-error-9 bytes e = room-enough (length bytes) (length buffer) (omega (arith, request-fits (readRequest text) bytes e))
 
   -- Without an error the bytes are the sheet's.
   pub sheet-printed : a .error ≡ 0 → Prints (a .count) out

@@ -2,21 +2,23 @@
 // are those of docs/SCOPE.md.
 ghost use mathlib.Core.Path.{_≡_};
 ghost use Prim.Native.Nat.{_≤_};
-ghost use Rattle.gregorian.specs.Calendar.{firstDay, lastDay};
+ghost use Rattle.gregorian.specs.Calendar.{lastDay};
 ghost use Rattle.markets.specs.Markets.{isTradingDay};
+ghost use Rattle.markets.specs.Years.{firstDayOf, lastDayOf};
 ghost use Rattle.ranges.specs.Ranges.{nextTradingDay, previousTradingDay};
-use gregorian::FIRST_DAY;
-use gregorian::LAST_DAY;
 use markets::is_trading_day;
+use markets::years::first_day_of;
+use markets::years::last_day_of;
 use utils::OptionalDay;
 
-// [next]: none if no day after n trades, up to the last of the years.
+// [next]: none if no day after n trades, up to the last that is looked at.
 pub fn next_trading_day(market: u32, n: u32) -> OptionalDay
     requires { ⌜ (1 ≤ n) × (n ≤ lastDay) ⌝ }
-    ensures { λ r. ⌜ r ≡ nextTradingDay (isTradingDay market) lastDay n ⌝ }
+    ensures { λ r. ⌜ r ≡ nextTradingDay (isTradingDay market) (lastDayOf market) n ⌝ }
 {
+    let last = last_day_of(market);
     let mut next = n;
-    while next < LAST_DAY {
+    while next < last {
         next += 1;
         if is_trading_day(market, gregorian::year_of(next), next) {
             return OptionalDay::Day(next);
@@ -25,13 +27,14 @@ pub fn next_trading_day(market: u32, n: u32) -> OptionalDay
     OptionalDay::None
 }
 
-// [previous]: none if no day before n trades, down to the first of the years.
+// [previous]: none if no day before n trades, down to the first that is looked at.
 pub fn previous_trading_day(market: u32, n: u32) -> OptionalDay
     requires { ⌜ (1 ≤ n) × (n ≤ lastDay) ⌝ }
-    ensures { λ r. ⌜ r ≡ previousTradingDay (isTradingDay market) firstDay n ⌝ }
+    ensures { λ r. ⌜ r ≡ previousTradingDay (isTradingDay market) (firstDayOf market) n ⌝ }
 {
+    let first = first_day_of(market);
     let mut previous = n;
-    while FIRST_DAY < previous {
+    while first < previous {
         previous -= 1;
         if is_trading_day(market, gregorian::year_of(previous), previous) {
             return OptionalDay::Day(previous);

@@ -8,11 +8,12 @@ use native.Mathlib.Omega.{arith}
 use Rattle.gregorian.specs.Calendar.{monthLength, isDate, date, dayNumber, dateOf}
 use Rattle.gregorian.proofs.Laws.{days-on, is-date, month-low, by-number}
 use Rattle.utils.specs.declared.OptionalDay.{OptionalDay}
-use Rattle.calendar.specs.declared.DayResult.{DayResult}
+use Rattle.markets.specs.Markets.{isMarket}
+use Rattle.checks.specs.declared.DayResult.{DayResult}
 use Rattle.range_calls.specs.declared.TradingDayResult.{TradingDayResult}
-use Rattle.calendar.specs.Calls.{checkedDay}
+use Rattle.checks.specs.Checks.{checkedDay}
 use Rattle.range_calls.specs.RangeCalls.{distanceOf, tradingDayResult, neighbourResult}
-use Rattle.calendar.proofs.CallLaws.{past-ok, checked}
+use Rattle.checks.proofs.CheckLaws.{past-day, checked-day}
 
 -- The distance to a later day, and to an earlier one.
 module _ (n m r : ℕ) where
@@ -54,9 +55,9 @@ pub neighbour-is : (neighbour : ℕ → OptionalDay) (market year month day n : 
     → DayResult.Ok n ≡ checkedDay market year month day → o ≡ neighbour n → r ≡ tradingDayResult year n o
     → r ≡ neighbourResult neighbour market year month day
 neighbour-is neighbour market year month day n o r q e f =
-    past-ok TradingDayResult.Err (λ n. tradingDayResult year n (neighbour n)) _ n r q (f ∙ ap (tradingDayResult year n) e)
+    past-day TradingDayResult.Err (λ n. tradingDayResult year n (neighbour n)) _ n r q (f ∙ ap (tradingDayResult year n) e)
 
 -- What a call answers on a date.
-pub neighbour-of-date : (neighbour : ℕ → OptionalDay) (market year month day : ℕ) → market ≤ 4 → isDate year month day ≡ true
+pub neighbour-of-date : (neighbour : ℕ → OptionalDay) (market year month day : ℕ) → isMarket market ≡ true → isDate year month day ≡ true
     → neighbourResult neighbour market year month day ≡ tradingDayResult year (dayNumber year month day) (neighbour (dayNumber year month day))
-neighbour-of-date neighbour market year month day h d = simp (checked market year month day h d)
+neighbour-of-date neighbour market year month day h d = simp (checked-day market year month day h d)

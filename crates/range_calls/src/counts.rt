@@ -1,40 +1,35 @@
 // The calls of src/calendar.rs about the days of a month and of a range. Labels in brackets are those of docs/SCOPE.md.
 ghost use mathlib.Core.Path.{_≡_};
-ghost use mathlib.Core.Bool.{_&&_};
-ghost use lib.Dec.{leb};
-ghost use Rattle.range_calls.specs.RangeCalls.{monthErrorDate, tradingDaysInMonthResult, tradingDaysInMonthBuffer};
-ghost use Rattle.range_calls.specs.RangeCalls.{countTradingDaysResult};
-use calendar::DayResult;
-use calendar::MAX_YEAR;
-use calendar::MIN_YEAR;
-use calendar::checked_day;
-use calendar::is_supported;
+ghost use mathlib.Core.Bool.{true};
+ghost use lib.ListN.{length};
+ghost use Rattle.gregorian.specs.Calendar.{isDate};
+ghost use Rattle.trading_days.specs.Month.{monthList};
+ghost use Rattle.checks.specs.Checks.{checkedRoom, finalBuffer};
+ghost use Rattle.range_calls.specs.RangeCalls.{tradingDaysInMonthResult, tradingDaysInMonthBuffer, countTradingDaysResult};
+use checks::MonthCheck;
+use checks::RangeResult;
+use checks::checked_month;
+use checks::checked_range;
+use checks::checked_room;
 use error::CalendarError;
 use error::CountResult;
 use gregorian::Date;
 
-fn is_month(month: u32) -> bool
-    ensures { λ r. ⌜ r ≡ (leb 1 month && leb month 12) ⌝ }
+// The list of a month that is past its check: how many days were written, or error 9.
+fn write_days(market: u32, year: u32, month: u32, out: &mut [u8]) -> CountResult
+    requires { ⌜ isDate year month 1 ≡ true ⌝ }
+    ensures { λ r. ⌜ (r ≡ checkedRoom (length (monthList market year month)) (length (now (out .entry))))
+        × (now (out .exit) ≡ finalBuffer r (monthList market year month) (now (out .entry))) ⌝ }
 {
-    (1 <= month) & (month <= 12)
-}
-
-// [month-error-date]
-fn month_error_date(year: u32, month: u32) -> Date
-    ensures { λ r. ⌜ r ≡ monthErrorDate year month ⌝ }
-{
-    if gregorian::is_date(year, month, 1) {
-        Date {
-            year,
-            month,
-            day: 1,
+    let list = trading_days::month_days(market, year, month);
+    let count = list.count;
+    let days = list.days;
+    match checked_room(count, out.len()) {
+        CountResult::Ok(n) => {
+            buffers::write(&days[0..count], out);
+            CountResult::Ok(n)
         }
-    } else {
-        Date {
-            year: 1970,
-            month: 1,
-            day: 1,
-        }
+        CountResult::Err(e) => CountResult::Err(e),
     }
 }
 
@@ -43,25 +38,10 @@ pub fn trading_days_in_month(market: u32, year: u32, month: u32, out: &mut [u8])
     ensures { λ r. ⌜ (r ≡ tradingDaysInMonthResult market year month (now (out .entry)))
         × (now (out .exit) ≡ tradingDaysInMonthBuffer market year month (now (out .entry))) ⌝ }
 {
-    let is_supported = is_supported(year);
-    let is_month = is_month(month);
-    if markets::LAST_MARKET < market {
-        return CountResult::Err(CalendarError::UnknownMarket);
+    match checked_month(market, year, month) {
+        MonthCheck::Ok => write_days(market, year, month, out),
+        MonthCheck::Err(e) => CountResult::Err(e),
     }
-    if !is_supported {
-        return CountResult::Err(CalendarError::DateOutOfRange(month_error_date(year, month)));
-    }
-    if !is_month {
-        return CountResult::Err(CalendarError::InvalidDateCalculation);
-    }
-    let list = trading_days::month_days(market, year, month);
-    let count = list.count;
-    let days = list.days;
-    if out.len() < count {
-        return CountResult::Err(CalendarError::BufferTooSmall(count as u32));
-    }
-    buffers::write(&days[0..count], out);
-    CountResult::Ok(count as u32)
 }
 
 // [count]: how many days trade from the start to the end, or the first of errors 8, 5 and 1 that applies.
@@ -76,21 +56,23 @@ pub fn count_trading_days(
 ) -> CountResult
     ensures { λ r. ⌜ r ≡ countTradingDaysResult market «start_year» «start_month» «start_day» «end_year» «end_month» «end_day» ⌝ }
 {
-    let is_outside = (start_year < MIN_YEAR) | (MAX_YEAR < end_year);
-    match checked_day(market, start_year, start_month, start_day) {
-        DayResult::Ok(start) => match checked_day(market, end_year, end_month, end_day) {
-            DayResult::Ok(end) => {
-                if is_outside {
-                    return CountResult::Err(CalendarError::DateOutOfRange(Date {
-                        year: start_year,
-                        month: start_month,
-                        day: start_day,
-                    }));
-                }
-                CountResult::Ok(trading_days::count(market, start, end))
-            }
-            DayResult::Err(e) => CountResult::Err(e),
-        },
-        DayResult::Err(e) => CountResult::Err(e),
+    if !markets::is_market(market) {
+        return CountResult::Err(CalendarError::UnknownMarket);
+    }
+    let first = Date {
+        year: start_year,
+        month: start_month,
+        day: start_day,
+    };
+    let last = Date {
+        year: end_year,
+        month: end_month,
+        day: end_day,
+    };
+    match checked_range(first, last) {
+        RangeResult::Ok { start, end } => {
+            CountResult::Ok(trading_days::count(market, start, end))
+        }
+        RangeResult::Err(e) => CountResult::Err(e),
     }
 }

@@ -8,11 +8,11 @@ ghost use Prim.Native.Nat.{_≤_};
 ghost use Rattle.gregorian.specs.Calendar.{lastDay, isDate, dayNumber, dateOf};
 ghost use Rattle.utils.specs.Weekday.{InYears};
 ghost use Rattle.range_calls.specs.RangeCalls.{distanceOf, tradingDay, tradingDayResult, nextTradingDayResult, previousTradingDayResult};
-use calendar::DayResult;
-use calendar::checked_day;
-use calendar::is_supported;
+use checks::DayResult;
+use checks::checked_day;
 use error::CalendarError;
 use gregorian::Date;
+use markets::years::is_supported;
 use utils::OptionalDay;
 
 // The answer of next and previous: its distance in days from the date given [distance], and whether either date is outside 2020

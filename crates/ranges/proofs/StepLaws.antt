@@ -92,13 +92,13 @@ in-years : (o : OptionalDay) → ((m : ℕ) → o ≡ Day m → (firstDay ≤ m)
 in-years (Day m) h = h m refl
 in-years None h = tt
 
-pub next-in-years : (trades : ℕ → Bool) (n : ℕ) → InYears (nextTradingDay trades lastDay n)
-next-in-years trades n =
-    in-years (nextTradingDay trades lastDay n) (λ m e. let r = next-is trades lastDay n m e in (omega (arith, r .1 .ordered), r .0))
+pub next-in-years : (trades : ℕ → Bool) (last n : ℕ) → last ≤ lastDay → InYears (nextTradingDay trades last n)
+next-in-years trades last n h =
+    in-years (nextTradingDay trades last n) (λ m e. let r = next-is trades last n m e in (omega (arith, r .1 .ordered), omega (arith, r .0)))
 
-pub previous-in-years : (trades : ℕ → Bool) (n : ℕ) → n ≤ lastDay → InYears (previousTradingDay trades firstDay n)
-previous-in-years trades n h =
-    in-years (previousTradingDay trades firstDay n) (λ m e. let r = previous-is trades firstDay n m (omega arith) e in (r .0, omega (arith, r .1 .ordered)))
+pub previous-in-years : (trades : ℕ → Bool) (first n : ℕ) → firstDay ≤ first → n ≤ lastDay → InYears (previousTradingDay trades first n)
+previous-in-years trades first n o h =
+    in-years (previousTradingDay trades first n) (λ m e. let r = previous-is trades first n m o e in (omega (arith, r .0), omega (arith, r .1 .ordered)))
 
 -- A call that may look further answers the same.
 pub next-further : (trades : ℕ → Bool) (most high last n m : ℕ) → high ≤ last → NextCall trades most high n m → NextCall trades most last n m

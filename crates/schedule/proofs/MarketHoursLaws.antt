@@ -1,19 +1,21 @@
 -- The hours of a market by its code.
 -- Assumes nothing.
-use Prim.Native.Nat.{ℕ, zero, suc, _-_, _≤_, _<_}
+use Prim.Native.Nat.{ℕ, _≤_, _<_}
 use mathlib.Core.Path.{_≡_, refl, ap, ap₂, sym, _∙_}
 use mathlib.Core.Bool.{Bool, true, false, cond, _&&_, _||_}
 use lib.Dec.{ltb, leb, lit≤}
+use lib.ListN.{length, List·getD-eq-default}
 use native.Mathlib.Decide.{decLt}
 use native.Mathlib.Omega.{arith}
 use borrow.Author.Tests.{lt-ltb, le-ltb, le-leb, lt-leb}
 use Rattle.gregorian.specs.declared.Date.{Date}
-use Rattle.gregorian.proofs.Tests.{and-true}
+use Rattle.gregorian.proofs.Tests.{and-true, and-false}
 use Rattle.gregorian.proofs.Total.{upto}
 use Rattle.days.proofs.DayLaws.{or-false}
+use Rattle.markets.specs.Markets.{holidaysByCode}
 use Rattle.schedule.specs.declared.TradingHours.{TradingHours}
 use Rattle.schedule.specs.Schedule.{contains, isOpenAt}
-use Rattle.schedule.specs.MarketHours.{isEarlyCloseDay, usRegularHours, usEarlyHours, usTradingHours, regularHours, tsxTradingHours, tradingHours}
+use Rattle.schedule.specs.MarketHours.{isEarlyCloseDay, usRegularHours, usEarlyHours, usTradingHours, regularHours, hoursByCode, HoursForEachMarket, tradingHours}
 
 module _ (date : Date) where
   pub early-hours : isEarlyCloseDay date ≡ true → usEarlyHours date ≡ usTradingHours date
@@ -29,16 +31,13 @@ pub us-hours : (m : ℕ) → m < 2 → tradingHours m ≡ usTradingHours
 unfolding tradingHours
 us-hours m h = upto (λ m. tradingHours m ≡ usTradingHours) 2 ((tt, refl), refl) m h
 
--- TSX, and what no call comes to
-from-tsx : (k : ℕ) → tradingHours (suc (suc (suc (suc k)))) ≡ tsxTradingHours
-unfolding tradingHours
-from-tsx zero = refl
-from-tsx (suc k) = refl
+pub hours-for-each-market : HoursForEachMarket
+hours-for-each-market = refl
 
-pub tsx-hours : (m : ℕ) → 4 ≤ m → tradingHours m ≡ tsxTradingHours
-tsx-hours m h =
-    let e : m ≡ suc (suc (suc (suc (m - 4)))) = omega arith in
-    ap tradingHours e ∙ from-tsx (m - 4)
+-- a code that is no market's
+pub no-hours : (m : ℕ) → length holidaysByCode ≤ m → tradingHours m ≡ regularHours 0 0
+unfolding tradingHours
+no-hours m h = List·getD-eq-default hoursByCode (regularHours 0 0) {n = m} (omega (arith, hours-for-each-market))
 
 -- the hours of the code k, which is that of the market
 pub by-code : (m k : ℕ) (date : Date) (hours : TradingHours) → hours ≡ tradingHours k date → m ≡ k → hours ≡ tradingHours m date
@@ -53,10 +52,14 @@ meet a b c t h k = elim (decLt t b) [
   | no n ↦ simp (le-ltb t b (omega arith), le-leb b t (omega arith), le-leb a t (omega arith))
 ]
 
--- Regular hours alone, which start before they end.
+-- Regular hours alone.
 pub regular-open : (start end : ℕ) (date : Date) (t : ℕ) → (leb start t && ltb t end) ≡ isOpenAt (regularHours start end date) t
 unfolding isOpenAt
 regular-open start end date t = sym (or-false (leb start t && ltb t end))
+
+-- The hours 0 to 0 are never open.
+pub never-open : (date : Date) (t : ℕ) → false ≡ isOpenAt (regularHours 0 0 date) t
+never-open date t = sym (ap (λ (b : Bool). leb 0 t && b) (le-ltb t 0 (omega arith)) ∙ and-false (leb 0 t)) ∙ regular-open 0 0 date t
 
 -- NYSE and NASDAQ: from the pre-market to the after-hours, with an early close and without.
 us-sessions : (close t : ℕ) (after : Bool) → 34200 ≤ close → close ≤ 72000 → after ≡ (leb close t && ltb t 72000)

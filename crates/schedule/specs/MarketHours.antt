@@ -1,16 +1,17 @@
 -- The hours of each market, as the mod.rs of src/markets have them, with the seconds of src/constants.rs: docs/SCOPE.md
 -- [hours], [trading-hours], [early-close]. Assumes nothing.
 use Prim.Native.Nat.{ℕ, _+_}
+use mathlib.Core.Path.{_≡_}
 use mathlib.Core.Bool.{Bool, cond, not, _&&_, _||_}
 use mathlib.Core.List.{List, [], _∷_}
 use lib.Dec.{eqb}
-use lib.ListN.{getD}
+use lib.ListN.{length, getD}
 use Rattle.gregorian.specs.declared.Date.{Date}
 use Rattle.gregorian.specs.Calendar.{dayNumber}
 use Rattle.utils.specs.declared.OptionalDay.{OptionalDay}
 use Rattle.utils.specs.Weekday.{mapDay}
 use Rattle.days.specs.Days.{isDay}
-use Rattle.markets.specs.Markets.{isWeekend}
+use Rattle.markets.specs.Markets.{holidaysByCode, isWeekend}
 use Rattle.markets.specs.Us.{thanksgivingDay}
 use Rattle.schedule.specs.declared.OptionalSession.{OptionalSession}
 use Rattle.schedule.specs.declared.OptionalTime.{OptionalTime}
@@ -69,6 +70,10 @@ tsxTradingHours = regularHours 34200 57600
 abbrev pub hoursByCode : List (Date → TradingHours)
 hoursByCode = usTradingHours ∷ usTradingHours ∷ lseTradingHours ∷ tseTradingHours ∷ tsxTradingHours ∷ []
 
--- TradingCalendar::trading_hours; no call comes here with a code above 4
+-- There are hours for each market.
+abbrev pub HoursForEachMarket : Type 0
+HoursForEachMarket = length hoursByCode ≡ length holidaysByCode
+
+-- TradingCalendar::trading_hours; a code that is no market's has the hours 0 to 0, which are never open
 unfoldable pub tradingHours : ℕ → Date → TradingHours
-tradingHours market = getD hoursByCode market tsxTradingHours
+tradingHours market = getD hoursByCode market (regularHours 0 0)

@@ -21,6 +21,7 @@ use markets::LSE;
 use markets::NASDAQ;
 use markets::NYSE;
 use markets::TSE;
+use markets::TSX;
 
 #[repr(C)]
 pub struct Session {
@@ -204,7 +205,7 @@ fn is_within(start: u32, end: u32, time: u32) -> bool
 }
 
 // [is-open-at] of the market's hours, which are open at the same seconds on every date: the sessions of the US meet, also where an
-// early close is the end of one and the start of the next. The last arm is TSX, as for trading_hours.
+// early close is the end of one and the start of the next. A code that is no market's is never open.
 pub fn is_market_open_at(market: u32, time: u32) -> bool
     ensures { λ r. ⌜ ((date : Date) → r ≡ isOpenAt (tradingHours market date) time) ⌝ }
 {
@@ -212,11 +213,12 @@ pub fn is_market_open_at(market: u32, time: u32) -> bool
         NYSE | NASDAQ => is_within(USMarket::PREMARKET_OPEN, USMarket::AFTERHOURS_CLOSE, time),
         LSE => is_within(LSEMarket::REGULAR_OPEN, LSEMarket::REGULAR_CLOSE, time),
         TSE => is_within(TSEMarket::REGULAR_OPEN, TSEMarket::REGULAR_CLOSE, time),
-        _ => is_within(TSXMarket::REGULAR_OPEN, TSXMarket::REGULAR_CLOSE, time),
+        TSX => is_within(TSXMarket::REGULAR_OPEN, TSXMarket::REGULAR_CLOSE, time),
+        _ => false,
     }
 }
 
-// [trading-hours]: callers have checked the code, so the last arm is TSX.
+// [trading-hours]: a code that is no market's has the hours 0 to 0.
 pub fn trading_hours(market: u32, date: Date) -> TradingHours
     requires { ⌜ isDate (date .year) (date .month) (date .day) ≡ true ⌝ }
     ensures { λ r. ⌜ r ≡ tradingHours market date ⌝ }
@@ -225,6 +227,7 @@ pub fn trading_hours(market: u32, date: Date) -> TradingHours
         NYSE | NASDAQ => us::trading_hours(date),
         LSE => regular_hours(date, LSEMarket::REGULAR_OPEN, LSEMarket::REGULAR_CLOSE),
         TSE => regular_hours(date, TSEMarket::REGULAR_OPEN, TSEMarket::REGULAR_CLOSE),
-        _ => regular_hours(date, TSXMarket::REGULAR_OPEN, TSXMarket::REGULAR_CLOSE),
+        TSX => regular_hours(date, TSXMarket::REGULAR_OPEN, TSXMarket::REGULAR_CLOSE),
+        _ => regular_hours(date, 0, 0),
     }
 }

@@ -1,10 +1,11 @@
 -- The call: docs/SCOPE.md [sheet-return], [errors]. Assumes nothing.
 use Prim.Native.Nat.{ℕ}
 use mathlib.Core.List.{List}
+use lib.ListN.{length}
 use Rattle.error.specs.declared.CountResult.{CountResult}
 use Rattle.error.specs.declared.CalendarError.{CalendarError}
 use Rattle.error.specs.declared.CalendarError.the-variants.{MalformedText}
-use Rattle.range_calls.specs.RangeCalls.{checkedMonth, tryMonth, writtenResult, finalBuffer}
+use Rattle.checks.specs.Checks.{checkedMonth, tryMonth, checkedRoom, finalBuffer}
 use Rattle.request.specs.declared.Request.{Request}
 use Rattle.request.specs.Request.{readRequest}
 use Rattle.sheet_lines.specs.Sheet.{monthSheet}
@@ -29,12 +30,12 @@ sheetOf text = sheetOfRequest (readRequest text)
 
 -- how many bytes are written into the buffer; error 9 where they do not fit
 abbrev pub sheetWritten : SheetResult → List ℕ → CountResult
-sheetWritten (Ok bytes) buffer = writtenResult bytes buffer
+sheetWritten (Ok bytes) buffer = checkedRoom (length bytes) (length buffer)
 sheetWritten (Err e) buffer = CountResult.Err e
 
 -- what the buffer holds at the end
 abbrev pub sheetBuffer : SheetResult → List ℕ → List ℕ
-sheetBuffer (Ok bytes) buffer = finalBuffer (writtenResult bytes buffer) bytes buffer
+sheetBuffer (Ok bytes) buffer = finalBuffer (checkedRoom (length bytes) (length buffer)) bytes buffer
 sheetBuffer (Err e) buffer = buffer
 
 -- month_sheet: errors 10, 8, 1, 2 and 9

@@ -3,28 +3,33 @@
 ghost use mathlib.Core.Path.{_≡_};
 ghost use Prim.Native.Nat.{_≤_};
 ghost use lib.ListN.{length};
-ghost use Rattle.range_calls.specs.RangeCalls.{writtenResult, finalBuffer};
+ghost use Rattle.checks.specs.Checks.{checkedRoom, finalBuffer};
 ghost use Rattle.sheet_lines.specs.Sheet.{sheetText};
 ghost use Rattle.sheet.specs.Call.{sheetOfMonth, sheetWritten, sheetBuffer, monthSheetResult, monthSheetBuffer};
+use checks::MonthCheck;
+use checks::checked_month;
+use checks::checked_room;
 use error::CalendarError;
 use error::CountResult;
 use request::Request;
 use request::read_request;
 use sheet_lines::sheet_length;
 use sheet_lines::write_lines;
-use trading_days::LONGEST_MONTH;
 
 // How many bytes were written; error 9 where the sheet does not fit.
 fn write_fitting(market: u32, year: u32, month: u32, days: &[u8], out: &mut [u8]) -> CountResult
     requires { ⌜ length (now days) ≤ 31 ⌝ }
-    ensures { λ r. ⌜ (r ≡ writtenResult (sheetText market year month (now (days .entry))) (now (out .entry)))
+    ensures { λ r. ⌜ (r ≡ checkedRoom (length (sheetText market year month (now (days .entry)))) (length (now (out .entry))))
         × (now (out .exit) ≡ finalBuffer r (sheetText market year month (now (days .entry))) (now (out .entry))) ⌝ }
 {
     let needed = sheet_length(market, year, month, days);
-    if out.len() < needed {
-        return CountResult::Err(CalendarError::BufferTooSmall(needed as u32));
+    match checked_room(needed, out.len()) {
+        CountResult::Ok(n) => {
+            write_lines(0, market, year, month, days, out);
+            CountResult::Ok(n)
+        }
+        CountResult::Err(e) => CountResult::Err(e),
     }
-    CountResult::Ok(write_lines(0, market, year, month, days, out) as u32)
 }
 
 // The first of errors 8, 1, 2 and 9 that applies, or the sheet with the days of the month list.
@@ -32,13 +37,14 @@ fn sheet_of_month(market: u32, year: u32, month: u32, out: &mut [u8]) -> CountRe
     ensures { λ r. ⌜ (r ≡ sheetWritten (sheetOfMonth market year month) (now (out .entry)))
         × (now (out .exit) ≡ sheetBuffer (sheetOfMonth market year month) (now (out .entry))) ⌝ }
 {
-    let mut days = [0; LONGEST_MONTH];
-    match range_calls::counts::trading_days_in_month(market, year, month, &mut days) {
-        CountResult::Ok(count) => {
-            let n = count as usize;
-            write_fitting(market, year, month, &days[0..n], out)
+    match checked_month(market, year, month) {
+        MonthCheck::Ok => {
+            let list = trading_days::month_days(market, year, month);
+            let count = list.count;
+            let days = list.days;
+            write_fitting(market, year, month, &days[0..count], out)
         }
-        CountResult::Err(e) => CountResult::Err(e),
+        MonthCheck::Err(e) => CountResult::Err(e),
     }
 }
 

@@ -2,26 +2,27 @@
 -- Assumes nothing.
 use Prim.Native.Nat.{ℕ, _^_, _≤_, _<_}
 use mathlib.Core.Path.{_≡_, refl, sym, ap, _∙_}
-use mathlib.Core.Bool.{Bool, true, false, cond}
+use mathlib.Core.Bool.{true}
 use mathlib.Core.List.{List, [], _∷_, _++_, map}
-use lib.Dec.{ltb, leb}
 use lib.ListN.{length, take, length-map}
 use native.Mathlib.Omega.{arith}
-use borrow.Author.Tests.{leb-true, le-leb}
 use Rattle.gregorian.specs.Calendar.{monthLength}
 use Rattle.gregorian.proofs.Formulas.{month-high}
-use Rattle.gregorian.proofs.Tests.{and-left, and-right}
+use Rattle.markets.specs.Markets.{isMarket}
+use Rattle.markets.specs.Years.{isSupported}
+use Rattle.markets.proofs.MarketLaws.{market-code}
+use Rattle.markets.proofs.YearLaws.{supported-years}
 use Rattle.ranges.specs.Ranges.{Every}
 use Rattle.ranges.proofs.Items.{every-each, every-append, every-map}
 use Rattle.trading_days.specs.Month.{monthList}
 use Rattle.trading_days.proofs.MonthDayLaws.{list-in-month, list-length}
+use Rattle.buffers.specs.Buffers.{overwrite}
 use Rattle.buffers.proofs.BufferLaws.{overwrite-start}
 use Rattle.error.specs.declared.CountResult.{CountResult}
-use Rattle.error.specs.declared.CalendarError.the-variants.{BufferTooSmall}
-use Rattle.calendar.specs.Calls.{isSupported}
-use Rattle.range_calls.specs.RangeCalls.{writtenResult, finalBuffer, tradingDaysInMonthResult, tradingDaysInMonthBuffer}
-use Rattle.calendar.proofs.CallLaws.{supported-years}
-use Rattle.range_calls.proofs.MonthLaws.{NoMonthError, no-month-error, written-ok, month-of-years}
+use Rattle.checks.specs.Checks.{checkedRoom, finalBuffer}
+use Rattle.checks.proofs.CheckLaws.{CheckedMonth, checked-month, month-checked, room-enough, room-checked}
+use Rattle.range_calls.specs.RangeCalls.{tradingDaysInMonthResult, tradingDaysInMonthBuffer}
+use Rattle.range_calls.proofs.MonthLaws.{month-of-years}
 use Rattle.answers.specs.Answers.{countAnswer}
 use Rattle.answers.specs.Expected.{counted}
 use Rattle.answers.proofs.AnswerLaws.{counted-is, was-counted}
@@ -33,8 +34,7 @@ use Rattle.request.specs.Request.{requestText, readRequest}
 use Rattle.sheet_lines.specs.Sheet.{commaSeparated, sheetLines, monthSheet}
 use Rattle.sheet.specs.Call.{SheetResult, sheetOfMonth, sheetOfRequest, sheetWritten, sheetBuffer}
 use Rattle.request.proofs.Form.{reads-the-form}
-use Rattle.sheet.proofs.CallLaws.{sheet-by-check, sheet-asked}
-use Rattle.sheet_lines.proofs.SheetLength.{sheet-length}
+use Rattle.sheet.proofs.CallLaws.{sheet-by-check, sheet-asked, sheet-fits}
 use Rattle.sheet_laws.specs.SheetLaws.{splitLines, firstLines, splitList, IsNumber, sheetCall, SheetLaws, AllSheetLaws}
 use Rattle.sheet_laws.proofs.Splitting.{Above, decimal-above, split-text, first-lines, numbers-above, split-list}
 
@@ -51,25 +51,21 @@ values (n ∷ ns) = λ j. decimal-value n j ∷ values ns j
 -- ---- what the calls wrote
 
 -- Bytes that were written without an error are all there.
-written-bytes : (bytes buffer : List ℕ) (n : ℕ) → writtenResult bytes buffer ≡ CountResult.Ok n
-    → (n ≡ length bytes) × (take n (finalBuffer (writtenResult bytes buffer) bytes buffer) ≡ bytes)
-unfolding writtenResult
-written-bytes bytes buffer n = by (ltb (length buffer) (length bytes))
-  where
-    result : Bool → CountResult
-    result short = cond short (CountResult.Err (BufferTooSmall (length bytes))) (CountResult.Ok (length bytes))
-
-    by : (short : Bool) → result short ≡ CountResult.Ok n → (n ≡ length bytes) × (take n (finalBuffer (result short) bytes buffer) ≡ bytes)
-    by true e = absurd (let z : _≡_ {A = ℕ} 0 1 = cc in omega arith)
-    by false e = let l : n ≡ length bytes = cc in (l, rw l (overwrite-start bytes buffer))
+written-bytes : (bytes buffer : List ℕ) (n : ℕ) → checkedRoom (length bytes) (length buffer) ≡ CountResult.Ok n
+    → (n ≡ length bytes) × (take n (finalBuffer (checkedRoom (length bytes) (length buffer)) bytes buffer) ≡ bytes)
+written-bytes bytes buffer n e =
+    let l = room-checked (length bytes) (length buffer) n e .0 in (
+      l,
+      ap (λ (r : CountResult). take n (finalBuffer r bytes buffer)) e ∙ ap (λ (k : ℕ). take k (overwrite bytes buffer)) l ∙ overwrite-start bytes buffer,
+    )
 
 -- The call gave no error, and so what it wrote is the sheet.
 sheet-checked : (market year month n : ℕ) (buffer : List ℕ) → sheetWritten (sheetOfMonth market year month) buffer ≡ CountResult.Ok n
-    → NoMonthError market year month × (sheetOfMonth market year month ≡ SheetResult.Ok (monthSheet market year month))
+    → CheckedMonth market year month × (sheetOfMonth market year month ≡ SheetResult.Ok (monthSheet market year month))
 sheet-checked market year month n buffer h = by (sheetOfMonth market year month) refl
   where
     by : (r : SheetResult) → sheetOfMonth market year month ≡ r
-        → NoMonthError market year month × (sheetOfMonth market year month ≡ SheetResult.Ok (monthSheet market year month))
+        → CheckedMonth market year month × (sheetOfMonth market year month ≡ SheetResult.Ok (monthSheet market year month))
     by (SheetResult.Ok bytes) e = let a = sheet-asked market year month bytes e in (a .0, e ∙ ap SheetResult.Ok (a .1))
     by (SheetResult.Err d) e =
         let z : CountResult.Err d ≡ CountResult.Ok n = ap (λ (r : SheetResult). sheetWritten r buffer) (sym e) ∙ h in
@@ -77,16 +73,13 @@ sheet-checked market year month n buffer h = by (sheetOfMonth market year month)
 
 -- ---- the sheet of a month
 
-module _ (market year month : ℕ) (k : NoMonthError market year month) where
+module _ (market year month : ℕ) (k : CheckedMonth market year month) where
   abbrev days : List ℕ
   days = monthList market year month
 
-  to-12 : (1 ≤ month) × (month ≤ 12)
-  to-12 = (leb-true 1 month (and-left (leb 1 month) _ (k .is-month)), leb-true month 12 (and-right (leb 1 month) _ (k .is-month)))
-
   -- what the month call answers and writes
-  month-answer : (buffer : List ℕ) → tradingDaysInMonthResult market year month buffer ≡ writtenResult days buffer
-  month-answer buffer = month-of-years market year month buffer (k .known) (k .supported) (to-12 .0) (to-12 .1)
+  month-answer : (buffer : List ℕ) → tradingDaysInMonthResult market year month buffer ≡ checkedRoom (length days) (length buffer)
+  month-answer buffer = month-of-years market year month buffer (k .known) (k .supported) (k .from) (k .to)
 
   month-written : (buffer : List ℕ) (i : ℕ) → tradingDaysInMonthResult market year month buffer ≡ CountResult.Ok i
       → (i ≡ length days) × (take i (tradingDaysInMonthBuffer market year month buffer) ≡ days)
@@ -97,7 +90,7 @@ module _ (market year month : ℕ) (k : NoMonthError market year month) where
   numbers =
       every-map IsNumber decimal days
       (every-each (λ d. d ≤ monthLength year month) (λ d. IsNumber (decimal d))
-      (λ d h. is-number d (omega (arith, month-high year month (to-12 .1)))) days (list-in-month market year month))
+      (λ d h. is-number d (omega (arith, month-high year month (k .to)))) days (list-in-month market year month))
 
   -- Each line is a name and then digits and commas, so that no line feed occurs in it.
   above : Every (Above 10) (sheetLines market year month days)
@@ -126,9 +119,9 @@ module _ (market year month : ℕ) (k : NoMonthError market year month) where
 
   small : (market < 10 ^ 9) × (year < 10 ^ 9) × (month < 10 ^ 9) × (length days < 10 ^ 9)
   small = (
-    omega (arith, k .known),
+    omega (arith, market-code market (k .known)),
     omega (arith, supported-years year (k .supported)),
-    omega (arith, to-12),
+    omega (arith, k .to),
     omega (arith, list-length market year month),
   )
 
@@ -154,7 +147,7 @@ module _ (market year month : ℕ) (k : NoMonthError market year month) where
         month = month;
         request = e;
         length-is = sym l;
-        at-most = omega (arith, sheet-length market year month (k .known) (k .supported) (k .is-month));
+        at-most = omega (arith, l, sheet-fits market year month k);
         market-digits = decimal market;
         year-digits = decimal year;
         month-digits = decimal month;
@@ -170,7 +163,7 @@ module _ (market year month : ℕ) (k : NoMonthError market year month) where
         count-is = count ∙ sym (ap length list ∙ length-map days decimal);
         days-are = same;
         month-call = λ buffer i h. let w = month-written buffer i (was-counted _ i h) in (w .0 ∙ sym count, w .1 ∙ sym same);
-        no-error = λ buffer h. ap countAnswer (month-answer buffer ∙ written-ok days buffer (omega arith)) ∙ counted-is (length days) ∙ ap counted (sym count);
+        no-error = λ buffer h. ap countAnswer (month-answer buffer ∙ room-enough (length days) (length buffer) (omega arith)) ∙ counted-is (length days) ∙ ap counted (sym count);
       }
 
 -- ---- the call
@@ -184,28 +177,23 @@ by-request text buffer n (Request.Month market year month) e h =
     rw (s .1, w .1) (laws market year month (s .0) text n e (w .0))
 by-request text buffer n Request.Malformed e h = absurd (let z : _≡_ {A = ℕ} 0 1 = cc in omega arith)
 
-years-supported : (year : ℕ) → 2020 ≤ year → year ≤ 2030 → isSupported year ≡ true
-unfolding isSupported
-years-supported year from to = simp (le-leb 2020 year from, le-leb year 2030 to)
-
 -- The text asks for a month without an error, and every sheet has room.
-answered : (text buffer : List ℕ) (market year month : ℕ) → readRequest text ≡ Request.Month market year month → NoMonthError market year month
-    → 136 ≤ length buffer → (n : ℕ) × (sheetCall text buffer ≡ counted n)
-answered text buffer market year month e k room =
+answered : (text buffer : List ℕ) (market year month : ℕ) → readRequest text ≡ Request.Month market year month → isMarket market ≡ true → isSupported year ≡ true
+    → 1 ≤ month → month ≤ 12 → 136 ≤ length buffer → (n : ℕ) × (sheetCall text buffer ≡ counted n)
+answered text buffer market year month e k s l u room =
     let bytes = monthSheet market year month in
-    let short = sheet-length market year month (k .known) (k .supported) (k .is-month) in (
+    let checked = checked-month market year month k s l u in
+    let short = sheet-fits market year month (month-checked market year month checked) in (
       length bytes,
       ap (λ (r : Request). countAnswer (sheetWritten (sheetOfRequest r) buffer)) e
-          ∙ ap (λ (r : SheetResult). countAnswer (sheetWritten r buffer)) (sheet-by-check market year month _ (no-month-error market year month k))
-          ∙ ap countAnswer (written-ok bytes buffer (omega arith))
+          ∙ ap (λ (r : SheetResult). countAnswer (sheetWritten r buffer)) (sheet-by-check market year month _ checked)
+          ∙ ap countAnswer (room-enough (length bytes) (length buffer) (omega arith))
           ∙ counted-is (length bytes),
     )
 
 -- [sheet-output], [sheet-numbers], [sheet-return]
 pub sheet-laws : AllSheetLaws
 sheet-laws = record {
-  answered = λ text buffer market year month e k from to l u room.
-      answered text buffer market year month e
-      (record { known = k; supported = years-supported year from to; is-month = simp (le-leb 1 month l, le-leb month 12 u) }) room;
+  answered = answered;
   written = λ text buffer n h. by-request text buffer n (readRequest text) refl (was-counted _ n h);
 }

@@ -2,10 +2,12 @@
 -- are the structs that the exported calls return, by the definitions that their contracts cite. Assumes nothing.
 use Prim.Native.Nat.{ℕ, zero, suc, _≤_, _<_}
 use mathlib.Core.Path.{_≡_}
-use mathlib.Core.Bool.{cond}
+use mathlib.Core.Bool.{true, cond}
 use mathlib.Core.List.{List, [], _∷_, _++_, map}
 use lib.Dec.{eqb}
 use lib.ListN.{length, take, getD}
+use Rattle.markets.specs.Markets.{isMarket}
+use Rattle.markets.specs.Years.{isSupported}
 use Rattle.ranges.specs.Ranges.{Every}
 use Rattle.trading_days.specs.Month.{monthList}
 use Rattle.range_calls.specs.RangeCalls.{tradingDaysInMonthResult, tradingDaysInMonthBuffer}
@@ -101,8 +103,8 @@ pub record SheetLaws (text : List ℕ) (n : ℕ) (written : List ℕ) : Type 0 w
 
 -- for every text and buffer
 pub record AllSheetLaws : Type 0 where
-  -- Where the text asks for a month of 2020 to 2030 of one of the markets, and there is room, the call gives no error.
-  pub answered : (text buffer : List ℕ) (market year month : ℕ) → readRequest text ≡ Request.Month market year month → market ≤ 4 → 2020 ≤ year → year ≤ 2030
+  -- Where the text asks for a month of a supported year of one of the markets, and there is room, the call gives no error.
+  pub answered : (text buffer : List ℕ) (market year month : ℕ) → readRequest text ≡ Request.Month market year month → isMarket market ≡ true → isSupported year ≡ true
       → 1 ≤ month → month ≤ 12 → 136 ≤ length buffer → (n : ℕ) × (sheetCall text buffer ≡ counted n)
   -- Where it gives none, the bytes written are the sheet of such a month.
   pub written : (text buffer : List ℕ) (n : ℕ) → sheetCall text buffer ≡ counted n → SheetLaws text n (take n (monthSheetBuffer text buffer))

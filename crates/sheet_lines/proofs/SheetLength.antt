@@ -1,24 +1,17 @@
 -- How many bytes a sheet has: at most 136.
 -- Assumes nothing.
-use Prim.Native.Nat.{ℕ, _*_, _≤_}
-use mathlib.Core.Path.{_≡_}
-use mathlib.Core.Bool.{true, _&&_}
+use Prim.Native.Nat.{ℕ, _*_, _≤_, _<_}
 use mathlib.Core.List.{List, [], _∷_}
-use lib.Dec.{leb}
 use lib.ListN.{length, length-append}
 use native.Mathlib.Omega.{arith}
-use borrow.Author.Tests.{leb-true}
 use Rattle.gregorian.specs.Calendar.{monthLength}
 use Rattle.gregorian.proofs.Formulas.{month-high}
-use Rattle.gregorian.proofs.Tests.{and-right}
 use Rattle.ranges.specs.Ranges.{Every}
 use Rattle.ranges.proofs.Items.{every-each}
 use Rattle.trading_days.specs.Month.{monthList}
 use Rattle.trading_days.proofs.MonthDayLaws.{list-in-month, list-length}
 use Rattle.decimal.specs.Decimal.{decimal}
 use Rattle.decimal.proofs.DecimalLaws.{length-at-most}
-use Rattle.calendar.specs.Calls.{isSupported}
-use Rattle.calendar.proofs.CallLaws.{supported-years}
 use Rattle.request.specs.Text.{textOf}
 use Rattle.sheet_lines.specs.Sheet.{commaSeparated, sheetLines, monthSheet}
 
@@ -32,12 +25,11 @@ numbers-length [] e = omega arith
 numbers-length (n ∷ []) e = omega (arith, two-digits n (e .0))
 numbers-length (n ∷ m ∷ ns) e = simp length-append (omega (arith, two-digits n (e .0), numbers-length (m ∷ ns) (e .1)))
 
--- [sheet-output], for the months without errors 8, 1 and 2
-pub sheet-length : (market year month : ℕ) → market ≤ 4 → isSupported year ≡ true → (leb 1 month && leb month 12) ≡ true
+-- [sheet-output], where the code has one digit and the year four
+pub sheet-length : (market year month : ℕ) → market < 10 → year < 10000 → month ≤ 12
     → length (monthSheet market year month) ≤ 136
 unfolding sheetLines textOf
-sheet-length market year month k s m =
-    let to = leb-true month 12 (and-right (leb 1 month) _ m) in
+sheet-length market year month k y to =
     let days = monthList market year month in
     let many = list-length market year month in
     let short =
@@ -45,7 +37,7 @@ sheet-length market year month k s m =
     simp length-append (omega (
       arith,
       length-at-most 0 market (omega arith),
-      length-at-most 3 year (omega (arith, supported-years year s)),
+      length-at-most 3 year (omega arith),
       two-digits month (omega arith),
       two-digits (length days) many,
       numbers-length days short,

@@ -11,11 +11,14 @@ ghost use Rattle.utils.specs.Easter.{calculateEaster, calculateGoodFriday, calc
 ghost use Rattle.calendar.specs.Calls.{isTradingDayResult, isHolidayResult};
 ghost use Rattle.answers.specs.Answers.{optionalDate, boolAnswer};
 use answers::BoolAnswer;
+use answers::EARLIEST_EASTER_MONDAY;
+use answers::EARLIEST_GOOD_FRIDAY;
 use answers::OptionalDate;
 use answers::bool_answer;
 use answers::easter_answer;
 use answers::nth_weekday_answer;
 use answers::optional_date;
+use utils::easter::EARLIEST_EASTER;
 
 // [nth-weekday]: none for nth = 0, and for a weekday, a month, a year or an answer out of range.
 #[no_mangle]
@@ -43,7 +46,7 @@ pub extern "C" fn tc_last_weekday_of_month(year: u32, month: u32, weekday: u32) 
 pub extern "C" fn tc_calculate_easter(year: u32) -> OptionalDate
     ensures { λ r. ⌜ r ≡ optionalDate (calculateEaster year) ⌝ }
 {
-    easter_answer(year, 22)
+    easter_answer(year, EARLIEST_EASTER)
 }
 
 // [good-friday]: none outside years 1 to 9999.
@@ -51,7 +54,7 @@ pub extern "C" fn tc_calculate_easter(year: u32) -> OptionalDate
 pub extern "C" fn tc_calculate_good_friday(year: u32) -> OptionalDate
     ensures { λ r. ⌜ r ≡ optionalDate (calculateGoodFriday year) ⌝ }
 {
-    easter_answer(year, 20)
+    easter_answer(year, EARLIEST_GOOD_FRIDAY)
 }
 
 // [easter-monday]: none outside years 1 to 9999.
@@ -59,7 +62,7 @@ pub extern "C" fn tc_calculate_good_friday(year: u32) -> OptionalDate
 pub extern "C" fn tc_calculate_easter_monday(year: u32) -> OptionalDate
     ensures { λ r. ⌜ r ≡ optionalDate (calculateEasterMonday year) ⌝ }
 {
-    easter_answer(year, 23)
+    easter_answer(year, EARLIEST_EASTER_MONDAY)
 }
 
 // [trading-day]: yes or no, or the first of errors 8, 5 and 1 that applies.

@@ -5,7 +5,7 @@ use mathlib.Core.Path.{_≡_, refl, sym, ap, _∙_}
 use mathlib.Core.Bool.{Bool, true, false}
 use mathlib.Core.List.{List, _∷_, _++_, append-nil, map}
 use lib.ListN.{length, take, set, List·getD-eq-default}
-use lib.Seq.{take-suc-set, append-snoc}
+use lib.Seq.{length-take-le, take-suc-set, append-snoc}
 use native.Mathlib.Decide.{decLe}
 use native.Mathlib.Omega.{arith}
 use Rattle.gregorian.specs.Calendar.{lastDay, leapDay, monthLengths, monthLength, isDate, dayNumber, dateOf}
@@ -89,3 +89,14 @@ length-high y m =
 pub list-length : (market y m : ℕ) → length (monthList market y m) ≤ 31
 unfolding monthList
 list-length market y m = omega (arith, trading-length (λ day. isTradingDay market (dayNumber y m day)) 1 (monthLength y m), length-high y m)
+
+-- The array that `month_days` answers with a count: its part `&days[0..count]` is the list.
+module _ (market y m count : ℕ) (array : List ℕ) (size : length array ≡ 31) (r : (take count array ≡ monthList market y m) × (count ≤ 31)) where
+  pub in-array : count ≤ length array
+  in-array = omega (arith, size, r .1)
+
+  pub listed : take (count - 0) array ≡ monthList market y m
+  listed = let from-0 : count - 0 ≡ count = omega arith in ap (λ (k : ℕ). take k array) from-0 ∙ r .0
+
+  pub count-is : count ≡ length (monthList market y m)
+  count-is = sym (length-take-le count array in-array) ∙ ap length (r .0)

@@ -6,6 +6,9 @@ ghost use Rattle.gregorian.specs.Calendar.{lastYear, dayNumber};
 ghost use Rattle.utils.specs.Easter.{moonDays, easter, calculateEaster, calculateGoodFriday, calculateEasterMonday};
 use crate::OptionalDay;
 
+// The day of March on which Easter is at the earliest.
+pub const EARLIEST_EASTER: u32 = 22;
+
 // h of the algorithm, from its a and b.
 fn moon_days(a: u32, b: u32) -> u32
     requires { ⌜ (a ≤ 18) × (b ≤ 99) ⌝ }
@@ -44,7 +47,7 @@ pub fn calculate_easter(year: u32) -> OptionalDay
     if gregorian::LAST_YEAR < year {
         return OptionalDay::None;
     }
-    let easter = gregorian::day_number(year, 3, 22) + easter_days(year);
+    let easter = gregorian::day_number(year, 3, EARLIEST_EASTER) + easter_days(year);
     OptionalDay::Day(easter)
 }
 

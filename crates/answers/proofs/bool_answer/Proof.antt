@@ -19,9 +19,9 @@ returns-2 : tie.Need-returns-2
 unfolding boolAnswer
 returns-2 c =
     let e : Err (c .before .before .before .result2 .given .0 .0) ≡ c .before .before .before .before .before .args .result = cc in
-    (λ j. record { error = c .before .number .ensures j; value = 0; date = c .date .ensures j }) ∙ ap boolAnswer e
+    (λ j. record { error = c .before .fields .ensures j .number; value = 0; date = c .before .fields .ensures j .date }) ∙ ap boolAnswer e
 
 pub bool-answer-spec : {M : Type 1} → statement M
 bool-answer-spec =
     tie.close
-    (tie.spec (search needs) (search needs) (search needs) (search needs) (search needs) returns returns-2)
+    (tie.spec (search needs) (search needs) (search needs) (search needs) returns returns-2)

@@ -3,11 +3,11 @@ use mathlib.Core.Path.{_≡_, ap, sym, _∙_}
 use mathlib.Core.Bool.{_&&_}
 use borrow.Author.Needs.{needs}
 use Rattle.gregorian.specs.Calendar.{date}
-use Rattle.calendar.specs.declared.DayResult.{DayResult}
+use Rattle.checks.specs.declared.DayResult.{DayResult}
 use Rattle.error.specs.declared.BoolResult.{BoolResult}
-use Rattle.hours.specs.Calls.{isTime}
-use Rattle.calendar.specs.Calls.{supportedDay}
-use Rattle.calendar.proofs.CallLaws.{day-in-years, past-ok, past-error}
+use Rattle.checks.specs.Checks.{isTime}
+use Rattle.checks.specs.Checks.{supportedDay}
+use Rattle.checks.proofs.CheckLaws.{supported-checked, past-day, past-day-error}
 use Rattle.calendar.proofs.is_open.Statement.{statement}
 use Rattle.calendar.proofs.is_open.Tie as tie
 
@@ -20,17 +20,17 @@ day : (c : tie.After-n) → (let a = c .before .before .before .before .args in 
 day c = sym (checked (c .before .before)) ∙ c .n .given .1
 
 is-trading-day-requires : tie.Need-is-trading-day-requires
-is-trading-day-requires c κs = day-in-years _ _ _ _ _ _ (day (c .before))
+is-trading-day-requires c κs = supported-checked _ _ _ _ _ _ (day (c .before)) .in-years
 
 returns : tie.Need-returns
 returns c =
     let s = c .before .before .before in
     let a = s .before .before .before .before .args in
     let is-open = c .is-market-open-at .ensures (date (a .year) (a .month) (a .day)) in
-    past-ok _ _ _ _ _ (sym (day s)) (λ j. BoolResult.Ok (c .before .is-trading-day .ensures j && is-open j))
+    past-day _ _ _ _ _ (sym (day s)) (λ j. BoolResult.Ok (c .before .is-trading-day .ensures j && is-open j))
 
 returns-2 : tie.Need-returns-2
-returns-2 c = past-error _ _ _ _ (sym (c .before .e .given .1) ∙ checked (c .before .before .before))
+returns-2 c = past-day-error _ _ _ _ (sym (c .before .e .given .1) ∙ checked (c .before .before .before))
 
 pub is-open-spec : {M : Type 1} → statement M
 is-open-spec =

@@ -13,8 +13,8 @@ use Rattle.hours.proofs.checked_hours.Tie as tie
 date-is : (c : tie.After-has-times) (b : Bool) → c .before .is-date .result ≡ b → (let t = c .before .before .before .args .hours .date in isDate (t .year) (t .month) (t .day) ≡ b)
 date-is c b e = sym (c .before .is-date .ensures) ∙ e
 
-times-are : (c : tie.After-has-times) (b : Bool) → (let a = c .before .before .before .args in (c .has-times .result && a .in-range) ≡ b → (hasTimes (a .hours) && a .in-range) ≡ b)
-times-are c b e = ap (λ (t : Bool). t && c .before .before .before .args .in-range) (sym (c .has-times .ensures)) ∙ e
+times-are : (c : tie.After-has-times) (b : Bool) → (let a = c .before .before .before .args in (c .has-times .result && a .time-in-range) ≡ b → (hasTimes (a .hours) && a .time-in-range) ≡ b)
+times-are c b e = ap (λ (t : Bool). t && c .before .before .before .args .time-in-range) (sym (c .has-times .ensures)) ∙ e
 
 returns : tie.Need-returns
 returns c = error-5 _ _ (date-is (c .before) _ (not-true _ (c .if1 .taken)))

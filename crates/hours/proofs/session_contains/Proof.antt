@@ -4,7 +4,8 @@ use mathlib.Core.Bool.{Bool, true, false, _&&_}
 use borrow.Author.Tests.{not-true, not-false}
 use borrow.Author.Needs.{needs}
 use Rattle.error.specs.declared.BoolResult.{BoolResult}
-use Rattle.hours.specs.Calls.{isTime, isSession, sessionContainsResult}
+use Rattle.hours.specs.Calls.{isSession, sessionContainsResult}
+use Rattle.checks.specs.Checks.{isTime}
 use Rattle.hours.proofs.session_contains.Statement.{statement}
 use Rattle.hours.proofs.session_contains.Tie as tie
 

@@ -1,10 +1,12 @@
 -- `neighbours::next_trading_day` meets its contract: each turn of the loop is one day of the search.
-use Prim.Native.Nat.{_-_, _≤_}
-use mathlib.Core.Path.{_≡_, refl, sym, _∙_}
+use Prim.Native.Nat.{ℕ, _-_, _≤_}
+use mathlib.Core.Path.{_≡_, refl, sym, ap, _∙_}
 use native.Mathlib.Omega.{arith}
 use borrow.Author.Needs.{needs}
 use Rattle.gregorian.specs.Calendar.{lastDay}
 use Rattle.markets.specs.Markets.{isTradingDay}
+use Rattle.markets.specs.Years.{lastDayOf}
+use Rattle.markets.proofs.YearLaws.{searched-days}
 use Rattle.ranges.specs.Ranges.{nextTradingDay}
 use Rattle.ranges.proofs.Neighbours.{next-none, next-found, next-passed}
 use Rattle.neighbours.proofs.next_trading_day.Statement.{statement}
@@ -12,15 +14,21 @@ use Rattle.neighbours.proofs.next_trading_day.Tie as tie
 
 -- what is left to search from the day of the loop is all of the search
 abbrev Inv-loop : tie.InvT-loop
-Inv-loop market n next₀ next =
-    (n ≤ next) × (next ≤ lastDay) × (nextTradingDay (isTradingDay market) lastDay n ≡ nextTradingDay (isTradingDay market) lastDay next)
+Inv-loop market n last next₀ next =
+    (n ≤ next) × (next ≤ lastDay) × (last ≤ lastDay) × (nextTradingDay (isTradingDay market) last n ≡ nextTradingDay (isTradingDay market) last next)
 
--- the days left in the years
+-- the days left
 abbrev μ-loop : tie.MeasureT-loop
-μ-loop market n next₀ next = lastDay - next
+μ-loop market n last next₀ next = last - next
+
+up-to : (c : tie.After-last-day-of Inv-loop μ-loop)
+    → (let a = c .before .args in nextTradingDay (isTradingDay (a .market)) (lastDayOf (a .market)) (a .n) ≡ nextTradingDay (isTradingDay (a .market)) (c .last-day-of .result) (a .n))
+up-to c = let a = c .before .args in ap (λ (last : ℕ). nextTradingDay (isTradingDay (a .market)) last (a .n)) (sym (c .last-day-of .ensures))
 
 loop-holds : tie.Need-loop-holds Inv-loop μ-loop
-loop-holds c = (omega arith, omega arith, refl)
+loop-holds c =
+    let last = c .last-day-of .ensures in
+    (omega arith, omega arith, omega (arith, last, searched-days (c .before .args .market)), refl)
 
 year-of-requires : tie.Need-year-of-requires Inv-loop μ-loop
 year-of-requires c κs = (omega arith, omega arith)
@@ -32,8 +40,8 @@ returns : tie.Need-returns Inv-loop μ-loop
 returns c =
     let s = c .before .before .before .before in
     sym
-    (s .loop .inv .2
-    ∙ next-found (isTradingDay (s .before .args .market)) lastDay (s .loop .next) (omega arith)
+    (up-to (s .before) ∙ s .loop .inv .3
+    ∙ next-found (isTradingDay (s .before .before .args .market)) (s .before .last-day-of .result) (s .loop .next) (omega arith)
     (sym (c .before .is-trading-day .ensures) ∙ c .if1 .taken))
 
 loop-again : tie.Need-loop-again Inv-loop μ-loop
@@ -41,18 +49,20 @@ loop-again c =
     let s = c .before .before .before .before in (
       omega arith,
       omega arith,
-      s .loop .inv .2
-          ∙ next-passed (isTradingDay (s .before .args .market)) lastDay (s .loop .next) (omega arith)
+      omega arith,
+      s .loop .inv .3
+          ∙ next-passed (isTradingDay (s .before .before .args .market)) (s .before .last-day-of .result) (s .loop .next) (omega arith)
           (sym (c .before .is-trading-day .ensures) ∙ c .if1 .left),
     )
 
 returns-2 : tie.Need-returns-2 Inv-loop μ-loop
 returns-2 c =
+    let s = c .before in
     sym
-    (c .before .loop .inv .2
-    ∙ next-none (isTradingDay (c .before .before .args .market)) lastDay (c .before .loop .next) (omega arith))
+    (up-to (s .before) ∙ s .loop .inv .3
+    ∙ next-none (isTradingDay (s .before .before .args .market)) (s .before .last-day-of .result) (s .loop .next) (omega arith))
 
 pub next-trading-day-spec : {M : Type 1} → statement M
 next-trading-day-spec =
     tie.close
-    (tie.spec Inv-loop μ-loop loop-holds (search needs) year-of-requires is-trading-day-requires returns (search needs) loop-again returns-2)
+    (tie.spec Inv-loop μ-loop (search needs) loop-holds (search needs) year-of-requires is-trading-day-requires returns (search needs) loop-again returns-2)

@@ -1,10 +1,11 @@
 -- `neighbours::previous_trading_day` meets its contract: each turn of the loop is one day of the search.
-use Prim.Native.Nat.{_-_, _≤_}
-use mathlib.Core.Path.{_≡_, refl, sym, _∙_}
+use Prim.Native.Nat.{ℕ, _≤_}
+use mathlib.Core.Path.{_≡_, refl, sym, ap, _∙_}
 use native.Mathlib.Omega.{arith}
 use borrow.Author.Needs.{needs}
-use Rattle.gregorian.specs.Calendar.{firstDay}
 use Rattle.markets.specs.Markets.{isTradingDay}
+use Rattle.markets.specs.Years.{firstDayOf}
+use Rattle.markets.proofs.YearLaws.{searched-days}
 use Rattle.ranges.specs.Ranges.{previousTradingDay}
 use Rattle.ranges.proofs.Neighbours.{previous-none, previous-found, previous-passed}
 use Rattle.neighbours.proofs.previous_trading_day.Statement.{statement}
@@ -12,15 +13,21 @@ use Rattle.neighbours.proofs.previous_trading_day.Tie as tie
 
 -- what is left to search from the day of the loop is all of the search
 abbrev Inv-loop : tie.InvT-loop
-Inv-loop market n previous₀ previous =
-    (firstDay ≤ previous) × (previous ≤ n) × (previousTradingDay (isTradingDay market) firstDay n ≡ previousTradingDay (isTradingDay market) firstDay previous)
+Inv-loop market n first previous₀ previous =
+    (1 ≤ previous) × (previous ≤ n) × (1 ≤ first) × (previousTradingDay (isTradingDay market) first n ≡ previousTradingDay (isTradingDay market) first previous)
 
--- the days left in the years
+-- the days left
 abbrev μ-loop : tie.MeasureT-loop
-μ-loop market n previous₀ previous = previous
+μ-loop market n first previous₀ previous = previous
+
+down-to : (c : tie.After-first-day-of Inv-loop μ-loop)
+    → (let a = c .before .args in previousTradingDay (isTradingDay (a .market)) (firstDayOf (a .market)) (a .n) ≡ previousTradingDay (isTradingDay (a .market)) (c .first-day-of .result) (a .n))
+down-to c = let a = c .before .args in ap (λ (first : ℕ). previousTradingDay (isTradingDay (a .market)) first (a .n)) (sym (c .first-day-of .ensures))
 
 loop-holds : tie.Need-loop-holds Inv-loop μ-loop
-loop-holds c = (omega arith, omega arith, refl)
+loop-holds c =
+    let first = c .first-day-of .ensures in
+    (omega arith, omega arith, omega (arith, first, searched-days (c .before .args .market)), refl)
 
 year-of-requires : tie.Need-year-of-requires Inv-loop μ-loop
 year-of-requires c κs = (omega arith, omega arith)
@@ -32,8 +39,8 @@ returns : tie.Need-returns Inv-loop μ-loop
 returns c =
     let s = c .before .before .before .before in
     sym
-    (s .loop .inv .2
-    ∙ previous-found (isTradingDay (s .before .args .market)) firstDay (s .loop .previous) (omega arith) (omega arith)
+    (down-to (s .before) ∙ s .loop .inv .3
+    ∙ previous-found (isTradingDay (s .before .before .args .market)) (s .before .first-day-of .result) (s .loop .previous) (omega arith) (omega arith)
     (sym (c .before .is-trading-day .ensures) ∙ c .if1 .taken))
 
 loop-again : tie.Need-loop-again Inv-loop μ-loop
@@ -41,18 +48,20 @@ loop-again c =
     let s = c .before .before .before .before in (
       omega arith,
       omega arith,
-      s .loop .inv .2
-          ∙ previous-passed (isTradingDay (s .before .args .market)) firstDay (s .loop .previous) (omega arith) (omega arith)
+      omega arith,
+      s .loop .inv .3
+          ∙ previous-passed (isTradingDay (s .before .before .args .market)) (s .before .first-day-of .result) (s .loop .previous) (omega arith) (omega arith)
           (sym (c .before .is-trading-day .ensures) ∙ c .if1 .left),
     )
 
 returns-2 : tie.Need-returns-2 Inv-loop μ-loop
 returns-2 c =
+    let s = c .before in
     sym
-    (c .before .loop .inv .2
-    ∙ previous-none (isTradingDay (c .before .before .args .market)) firstDay (c .before .loop .previous) (omega arith) (omega arith))
+    (down-to (s .before) ∙ s .loop .inv .3
+    ∙ previous-none (isTradingDay (s .before .before .args .market)) (s .before .first-day-of .result) (s .loop .previous) (omega arith) (omega arith))
 
 pub previous-trading-day-spec : {M : Type 1} → statement M
 previous-trading-day-spec =
     tie.close
-    (tie.spec Inv-loop μ-loop loop-holds (search needs) year-of-requires is-trading-day-requires returns (search needs) loop-again returns-2)
+    (tie.spec Inv-loop μ-loop (search needs) loop-holds (search needs) year-of-requires is-trading-day-requires returns (search needs) loop-again returns-2)

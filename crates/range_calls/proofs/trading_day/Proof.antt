@@ -3,7 +3,7 @@ use mathlib.Core.Path.{ap, _∙_}
 use mathlib.Core.Bool.{not, _||_}
 use borrow.Author.Needs.{needs}
 use Rattle.gregorian.specs.declared.Date.{Date}
-use Rattle.calendar.specs.Calls.{isSupported}
+use Rattle.markets.specs.Years.{isSupported}
 use Rattle.range_calls.specs.RangeCalls.{tradingDay}
 use Rattle.range_calls.proofs.trading_day.Statement.{statement}
 use Rattle.range_calls.proofs.trading_day.Tie as tie

@@ -12,8 +12,8 @@ returns c = ap countAnswer (sym (c .before .result .given .1))
 returns-2 : tie.Need-returns-2
 unfolding countAnswer
 returns-2 c =
-    (λ j. record { error = c .before .before .number .ensures j; count = c .before .count .ensures j; date = c .date .ensures j })
-    ∙ ap countAnswer (sym (c .before .before .before .before .result2 .given .1))
+    (λ j. record { error = c .before .fields .ensures j .number; count = c .before .fields .ensures j .count; date = c .before .fields .ensures j .date })
+    ∙ ap countAnswer (sym (c .before .before .before .result2 .given .1))
 
 pub count-answer-spec : {M : Type 1} → statement M
-count-answer-spec = tie.close (tie.spec (search needs) (search needs) (search needs) (search needs) (search needs) returns returns-2)
+count-answer-spec = tie.close (tie.spec (search needs) (search needs) (search needs) returns returns-2)

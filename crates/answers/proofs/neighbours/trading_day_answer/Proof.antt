@@ -17,9 +17,9 @@ returns c =
 returns-2 : tie.Need-returns-2
 unfolding tradingDayAnswer
 returns-2 c =
-    (λ j. record { error = c .before .number .ensures j; date = c .date2 .ensures j; distance = 0; outside = 0 })
+    (λ j. record { error = c .before .fields .ensures j .number; date = c .before .fields .ensures j .date; distance = 0; outside = 0 })
     ∙ ap tradingDayAnswer (sym (c .before .before .before .result2 .given .1))
 
 pub trading-day-answer-spec : {M : Type 1} → statement M
 trading-day-answer-spec =
-    tie.close (tie.spec (search needs) (search needs) (search needs) (search needs) (search needs) returns returns-2)
+    tie.close (tie.spec (search needs) (search needs) (search needs) (search needs) returns returns-2)

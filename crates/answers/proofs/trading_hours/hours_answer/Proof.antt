@@ -12,7 +12,7 @@ returns c = (λ j. record { error = 0; hours = c .hours-of .ensures j }) ∙ ap 
 
 returns-2 : tie.Need-returns-2
 unfolding hoursAnswer
-returns-2 c = (λ j. record { error = c .number .ensures j; hours = noHours }) ∙ ap hoursAnswer (sym (c .before .before .result2 .given .1))
+returns-2 c = (λ j. record { error = c .fields .ensures j .number; hours = noHours }) ∙ ap hoursAnswer (sym (c .before .before .result2 .given .1))
 
 pub hours-answer-spec : {M : Type 1} → statement M
 hours-answer-spec = tie.close (tie.spec (search needs) (search needs) (search needs) (search needs) returns returns-2)

@@ -11,7 +11,7 @@ returns c = ap timeAnswer (sym (c .before .result .given .1))
 
 returns-2 : tie.Need-returns-2
 unfolding timeAnswer
-returns-2 c = (λ j. record { error = c .number .ensures j; seconds = 0 }) ∙ ap timeAnswer (sym (c .before .before .result2 .given .1))
+returns-2 c = (λ j. record { error = c .fields .ensures j .number; seconds = 0 }) ∙ ap timeAnswer (sym (c .before .before .result2 .given .1))
 
 pub time-answer-spec : {M : Type 1} → statement M
 time-answer-spec = tie.close (tie.spec (search needs) (search needs) (search needs) returns returns-2)

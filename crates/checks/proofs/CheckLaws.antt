@@ -1,0 +1,203 @@
+-- The laws of the checks for their callers: what is known past each, where each finds no error, and what follows it.
+-- Assumes nothing.
+use Prim.Native.Nat.{ℕ, _≤_, _<_}
+use mathlib.Core.Path.{_≡_, refl, sym, ap, _∙_}
+use mathlib.Core.Bool.{Bool, true, false, cond, not, _||_}
+use lib.Dec.{ltb, leb, lit≤}
+use native.Mathlib.Omega.{arith}
+use borrow.Author.Tests.{lt-ltb, le-ltb, ltb-false, leb-true, le-leb, not-false}
+use Rattle.gregorian.specs.declared.Date.{Date}
+use Rattle.gregorian.specs.Calendar.{lastDay, isDate, date, dayNumber, isDateOf, number, dateOf}
+use Rattle.gregorian.proofs.Tests.{and-left, and-right}
+use Rattle.gregorian.proofs.Laws.{number-range, year-of-number, date-by, month-low}
+use Rattle.markets.specs.Markets.{isMarket}
+use Rattle.markets.specs.Years.{minYear, maxYear, isSupported}
+use Rattle.markets.proofs.YearLaws.{supported-years}
+use Rattle.error.specs.declared.CountResult.{CountResult}
+use Rattle.error.specs.declared.CalendarError.{CalendarError}
+use Rattle.error.specs.declared.CalendarError.the-variants.{TimeOutOfRange, DateOutOfRange, BufferTooSmall}
+use Rattle.checks.specs.declared.DayResult.{DayResult}
+use Rattle.checks.specs.declared.MonthCheck.{MonthCheck}
+use Rattle.checks.specs.declared.RangeResult.{RangeResult}
+use Rattle.checks.specs.Checks.{checkedDay, tryDay, supportedDay, isMonth, checkedMonth, tryMonth, isOutside, checkedRange, tryRange, checkedRoom}
+
+-- Where a ladder comes to no error, its first test found none, and the rest comes to none.
+module _ {A : Type 0} (failed : A → Bool) (ok : A) (h : failed ok ≡ false) where
+  passed : (b : Bool) (e rest : A) → failed e ≡ true → cond b e rest ≡ ok → (b ≡ false) × (rest ≡ ok)
+  passed true e rest f q = let z : true ≡ false = sym f ∙ ap failed q ∙ h in (cc, cc)
+  passed false e rest f q = (refl, q)
+
+-- ---- a day of a market
+
+module _ {A : Type 0} (error : CalendarError → A) (rest : ℕ → A) (r : DayResult) where
+  pub past-day : (n : ℕ) (a : A) → DayResult.Ok n ≡ r → a ≡ rest n → a ≡ tryDay r error rest
+  past-day n a q e = e ∙ ap (λ (d : DayResult). tryDay d error rest) q
+
+  pub past-day-error : (e : CalendarError) → DayResult.Err e ≡ r → error e ≡ tryDay r error rest
+  past-day-error e q = ap (λ (d : DayResult). tryDay d error rest) q
+
+-- day n of a known market
+pub record CheckedDay (market year month day n : ℕ) : Type 0 where
+  pub known : isMarket market ≡ true
+  pub is-date : isDate year month day ≡ true
+  pub number-is : n ≡ dayNumber year month day
+  pub in-years : (1 ≤ n) × (n ≤ lastDay) × (year ≡ dateOf n .year)
+
+module _ (market year month day : ℕ) where
+  pub checked-day : isMarket market ≡ true → isDate year month day ≡ true → checkedDay market year month day ≡ DayResult.Ok (dayNumber year month day)
+  unfolding checkedDay
+  checked-day k d = simp (k, d)
+
+  abbrev failed : DayResult → Bool
+  failed r = tryDay r (λ e. true) (λ n. false)
+
+  pub day-checked : (n : ℕ) → checkedDay market year month day ≡ DayResult.Ok n → CheckedDay market year month day n
+  unfolding checkedDay
+  day-checked n q =
+      let past₈ = passed failed (DayResult.Ok n) refl (not (isMarket market)) _ _ refl q in
+      let past₅ = passed failed (DayResult.Ok n) refl (not (isDate year month day)) _ _ refl (past₈ .1) in
+      let d = not-false (isDate year month day) (past₅ .0) in
+      let e : n ≡ dayNumber year month day = cc in
+      let r = number-range year month day d in
+      record {
+        known = not-false _ (past₈ .0);
+        is-date = d;
+        number-is = e;
+        in-years = (omega (arith, e, r), omega (arith, e, r), year-of-number year month day d ∙ ap (λ (i : ℕ). dateOf i .year) (sym e));
+      }
+
+  -- A supported day is past the same checks, and two more.
+  abbrev past-checked : Bool → ℕ → DayResult
+  past-checked timeInRange n =
+      cond (not timeInRange) (DayResult.Err TimeOutOfRange)
+      (cond (not (isSupported year)) (DayResult.Err (DateOutOfRange (date year month day)))
+      (DayResult.Ok n))
+
+  pub supported-checked : (timeInRange : Bool) (n : ℕ) → supportedDay market year month day timeInRange ≡ DayResult.Ok n → CheckedDay market year month day n
+  unfolding supportedDay
+  supported-checked timeInRange n q = by (checkedDay market year month day) refl q
+    where
+      by : (r : DayResult) → checkedDay market year month day ≡ r → tryDay r DayResult.Err (past-checked timeInRange) ≡ DayResult.Ok n → CheckedDay market year month day n
+      by (DayResult.Ok k) c p =
+          let past₇ = passed failed (DayResult.Ok n) refl (not timeInRange) _ _ refl p in
+          let past₁ = passed failed (DayResult.Ok n) refl (not (isSupported year)) _ _ refl (past₇ .1) in
+          day-checked n (c ∙ past₁ .1)
+      by (DayResult.Err e) c p = absurd (let z : _≡_ {A = ℕ} 0 1 = cc in omega arith)
+
+-- ---- a month of a market
+
+module _ {A : Type 0} (error : CalendarError → A) (rest : A) (r : MonthCheck) where
+  pub past-month : (a : A) → MonthCheck.Ok ≡ r → a ≡ rest → a ≡ tryMonth r error rest
+  past-month a q e = e ∙ ap (λ (m : MonthCheck). tryMonth m error rest) q
+
+  pub past-month-error : (e : CalendarError) → MonthCheck.Err e ≡ r → error e ≡ tryMonth r error rest
+  past-month-error e q = ap (λ (m : MonthCheck). tryMonth m error rest) q
+
+-- a month of a supported year of a known market
+pub record CheckedMonth (market year month : ℕ) : Type 0 where
+  pub known : isMarket market ≡ true
+  pub supported : isSupported year ≡ true
+  pub from : 1 ≤ month
+  pub to : month ≤ 12
+  pub first-date : isDate year month 1 ≡ true
+
+module _ (market year month : ℕ) where
+  pub checked-month : isMarket market ≡ true → isSupported year ≡ true → 1 ≤ month → month ≤ 12 → checkedMonth market year month ≡ MonthCheck.Ok
+  unfolding checkedMonth isMonth
+  checked-month k s l u = simp (k, s, le-leb 1 month l, le-leb month 12 u)
+
+  abbrev failed-month : MonthCheck → Bool
+  failed-month r = tryMonth r (λ e. true) false
+
+  pub month-checked : checkedMonth market year month ≡ MonthCheck.Ok → CheckedMonth market year month
+  unfolding checkedMonth isMonth
+  month-checked q =
+      let past₈ = passed failed-month MonthCheck.Ok refl (not (isMarket market)) _ _ refl q in
+      let past₁ = passed failed-month MonthCheck.Ok refl (not (isSupported year)) _ _ refl (past₈ .1) in
+      let past₂ = passed failed-month MonthCheck.Ok refl (not (isMonth month)) _ _ refl (past₁ .1) in
+      let s = not-false _ (past₁ .0) in
+      let m = not-false _ (past₂ .0) in
+      let l = leb-true 1 month (and-left (leb 1 month) _ m) in
+      let u = leb-true month 12 (and-right (leb 1 month) _ m) in
+      let years = supported-years year s in
+      record {
+        known = not-false _ (past₈ .0);
+        supported = s;
+        from = l;
+        to = u;
+        first-date = date-by year month 1 (omega arith, omega arith) (l, u) (lit≤ tt, omega (arith, month-low year month l u));
+      }
+
+-- ---- a range of dates
+
+module _ {A : Type 0} (error : CalendarError → A) (rest : ℕ → ℕ → A) (r : RangeResult) where
+  pub past-range : (a b : ℕ) (x : A) → RangeResult.Ok a b ≡ r → x ≡ rest a b → x ≡ tryRange r error rest
+  past-range a b x q e = e ∙ ap (λ (d : RangeResult). tryRange d error rest) q
+
+  pub past-range-error : (e : CalendarError) → RangeResult.Err e ≡ r → error e ≡ tryRange r error rest
+  past-range-error e q = ap (λ (d : RangeResult). tryRange d error rest) q
+
+-- days a and b of the start and the end
+pub record CheckedRange (start end : Date) (a b : ℕ) : Type 0 where
+  pub start-date : isDateOf start ≡ true
+  pub end-date : isDateOf end ≡ true
+  pub start-is : a ≡ number start
+  pub end-is : b ≡ number end
+  pub start-year : minYear ≤ start .year
+  pub end-year : end .year ≤ maxYear
+  pub in-years : (1 ≤ a) × (a ≤ lastDay) × (1 ≤ b) × (b ≤ lastDay)
+
+module _ (start end : Date) where
+  pub checked-range : isDateOf start ≡ true → isDateOf end ≡ true → minYear ≤ start .year → end .year ≤ maxYear → checkedRange start end ≡ RangeResult.Ok (number start) (number end)
+  unfolding checkedRange isOutside
+  checked-range p q l u = simp (p, q, le-ltb (start .year) minYear l, le-ltb maxYear (end .year) u)
+
+  abbrev failed-range : RangeResult → Bool
+  failed-range r = tryRange r (λ e. true) (λ a b. false)
+
+  neither : (p q : Bool) → (p || q) ≡ false → (p ≡ false) × (q ≡ false)
+  neither true q e = (cc, cc)
+  neither false q e = (refl, e)
+
+  pub range-checked : (a b : ℕ) → checkedRange start end ≡ RangeResult.Ok a b → CheckedRange start end a b
+  unfolding checkedRange isOutside
+  range-checked a b q =
+      let ok = RangeResult.Ok a b in
+      let past₅ = passed failed-range ok refl (not (isDateOf start)) _ _ refl q in
+      let past₅′ = passed failed-range ok refl (not (isDateOf end)) _ _ refl (past₅ .1) in
+      let past₁ = passed failed-range ok refl (isOutside (start .year) (end .year)) _ _ refl (past₅′ .1) in
+      let s = not-false (isDateOf start) (past₅ .0) in
+      let e = not-false (isDateOf end) (past₅′ .0) in
+      let years = neither (ltb (start .year) minYear) _ (past₁ .0) in
+      let i : a ≡ number start = cc in
+      let k : b ≡ number end = cc in
+      let x = number-range (start .year) (start .month) (start .day) s in
+      let y = number-range (end .year) (end .month) (end .day) e in
+      record {
+        start-date = s;
+        end-date = e;
+        start-is = i;
+        end-is = k;
+        start-year = ltb-false (start .year) minYear (years .0);
+        end-year = ltb-false maxYear (end .year) (years .1);
+        in-years = (omega (arith, i, x), omega (arith, i, x), omega (arith, k, y), omega (arith, k, y));
+      }
+
+-- ---- a buffer
+
+module _ (needed room : ℕ) where
+  pub room-enough : needed ≤ room → checkedRoom needed room ≡ CountResult.Ok needed
+  unfolding checkedRoom
+  room-enough h = simp (le-ltb room needed h)
+
+  pub room-short : room < needed → checkedRoom needed room ≡ CountResult.Err (BufferTooSmall needed)
+  unfolding checkedRoom
+  room-short h = simp (lt-ltb room needed h)
+
+  pub room-checked : (n : ℕ) → checkedRoom needed room ≡ CountResult.Ok n → (n ≡ needed) × (needed ≤ room)
+  unfolding checkedRoom
+  room-checked n q = by (ltb room needed) refl q
+    where
+      by : (b : Bool) → ltb room needed ≡ b → cond b (CountResult.Err (BufferTooSmall needed)) (CountResult.Ok needed) ≡ CountResult.Ok n → (n ≡ needed) × (needed ≤ room)
+      by true e p = (cc, absurd (let z : _≡_ {A = ℕ} 0 1 = cc in omega arith))
+      by false e p = (cc, ltb-false room needed e)

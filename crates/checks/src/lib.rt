@@ -1,0 +1,160 @@
+// The checks of the numbers that calls are given, each one ladder of tests: the first error of [errors] that applies decides. Labels
+// in brackets are those of docs/SCOPE.md.
+ghost use mathlib.Core.Path.{_≡_};
+ghost use Prim.Native.Nat.{_<_, _^_};
+ghost use Rattle.checks.specs.Checks.{isTime, checkedDay, supportedDay, isMonth, monthErrorDate, checkedMonth};
+ghost use Rattle.checks.specs.Checks.{isOutside, checkedRange, checkedRoom};
+use error::CalendarError;
+use error::CountResult;
+use gregorian::Date;
+use gregorian::day_number;
+use gregorian::is_date;
+use markets::is_market;
+use markets::years::MAX_YEAR;
+use markets::years::MIN_YEAR;
+use markets::years::is_supported;
+
+// The last second of the day.
+const LAST_TIME: u32 = 86399;
+
+// [time]
+pub fn is_time(time: u32) -> bool
+    ensures { λ r. ⌜ r ≡ isTime time ⌝ }
+{
+    time <= LAST_TIME
+}
+
+// A day number, or the error of a check.
+pub enum DayResult {
+    Ok(u32),
+    Err(CalendarError),
+}
+
+// Errors 8 and 5.
+pub fn checked_day(market: u32, year: u32, month: u32, day: u32) -> DayResult
+    ensures { λ r. ⌜ r ≡ checkedDay market year month day ⌝ }
+{
+    let is_market = is_market(market);
+    let is_date = is_date(year, month, day);
+    if !is_market {
+        return DayResult::Err(CalendarError::UnknownMarket);
+    }
+    if !is_date {
+        return DayResult::Err(CalendarError::InvalidDate);
+    }
+    DayResult::Ok(day_number(year, month, day))
+}
+
+// Errors 8, 5, 7 and 1. A call that takes no time has none out of range.
+pub fn supported_day(market: u32, year: u32, month: u32, day: u32, time_in_range: bool) -> DayResult
+    ensures { λ r. ⌜ r ≡ supportedDay market year month day «time_in_range» ⌝ }
+{
+    let is_supported = is_supported(year);
+    match checked_day(market, year, month, day) {
+        DayResult::Ok(n) => {
+            if !time_in_range {
+                return DayResult::Err(CalendarError::TimeOutOfRange);
+            }
+            if !is_supported {
+                return DayResult::Err(CalendarError::DateOutOfRange(Date { year, month, day }));
+            }
+            DayResult::Ok(n)
+        }
+        DayResult::Err(e) => DayResult::Err(e),
+    }
+}
+
+fn is_month(month: u32) -> bool
+    ensures { λ r. ⌜ r ≡ isMonth month ⌝ }
+{
+    (1 <= month) & (month <= 12)
+}
+
+// [month-error-date]
+fn month_error_date(year: u32, month: u32) -> Date
+    ensures { λ r. ⌜ r ≡ monthErrorDate year month ⌝ }
+{
+    if is_date(year, month, 1) {
+        Date {
+            year,
+            month,
+            day: 1,
+        }
+    } else {
+        Date {
+            year: 1970,
+            month: 1,
+            day: 1,
+        }
+    }
+}
+
+// Nothing more, or the error of a check.
+pub enum MonthCheck {
+    Ok,
+    Err(CalendarError),
+}
+
+// Errors 8, 1 and 2.
+pub fn checked_month(market: u32, year: u32, month: u32) -> MonthCheck
+    ensures { λ r. ⌜ r ≡ checkedMonth market year month ⌝ }
+{
+    let is_supported = is_supported(year);
+    let is_month = is_month(month);
+    if !is_market(market) {
+        return MonthCheck::Err(CalendarError::UnknownMarket);
+    }
+    if !is_supported {
+        return MonthCheck::Err(CalendarError::DateOutOfRange(month_error_date(year, month)));
+    }
+    if !is_month {
+        return MonthCheck::Err(CalendarError::InvalidDateCalculation);
+    }
+    MonthCheck::Ok
+}
+
+// Two day numbers, or the error of a check.
+pub enum RangeResult {
+    Ok { start: u32, end: u32 },
+    Err(CalendarError),
+}
+
+// [count]: the year rule of a range.
+fn is_outside(start_year: u32, end_year: u32) -> bool
+    ensures { λ r. ⌜ r ≡ isOutside «start_year» «end_year» ⌝ }
+{
+    (start_year < MIN_YEAR) | (MAX_YEAR < end_year)
+}
+
+// [count]: errors 5 for the start, 5 for the end, and 1 with the start. Callers have checked the market, or the markets, before.
+pub fn checked_range(start: Date, end: Date) -> RangeResult
+    ensures { λ r. ⌜ r ≡ checkedRange start end ⌝ }
+{
+    let is_outside = is_outside(start.year, end.year);
+    if !is_date(start.year, start.month, start.day) {
+        return RangeResult::Err(CalendarError::InvalidDate);
+    }
+    if !is_date(end.year, end.month, end.day) {
+        return RangeResult::Err(CalendarError::InvalidDate);
+    }
+    if is_outside {
+        return RangeResult::Err(CalendarError::DateOutOfRange(start));
+    }
+    let first = day_number(start.year, start.month, start.day);
+    let last = day_number(end.year, end.month, end.day);
+    RangeResult::Ok {
+        start: first,
+        end: last,
+    }
+}
+
+// Error 9, or how many entries are written: all that are needed, into a buffer with room for so many.
+pub fn checked_room(needed: usize, room: usize) -> CountResult
+    requires { ⌜ needed < 2 ^ 32 ⌝ }
+    ensures { λ r. ⌜ r ≡ checkedRoom needed room ⌝ }
+{
+    if room < needed {
+        return CountResult::Err(CalendarError::BufferTooSmall(needed as u32));
+    }
+    CountResult::Ok(needed as u32)
+}
