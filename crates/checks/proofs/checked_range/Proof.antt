@@ -3,7 +3,7 @@ use mathlib.Core.Path.{_≡_, ap₂, sym, _∙_}
 use mathlib.Core.Bool.{Bool, true}
 use borrow.Author.Tests.{not-true, not-false}
 use borrow.Author.Needs.{needs}
-use Rattle.gregorian.specs.Calendar.{isDateOf, number}
+use Rattle.gregorian.specs.Calendar.{isDateOf}
 use Rattle.error.specs.declared.CalendarError.the-variants.{DateOutOfRange}
 use Rattle.checks.specs.declared.RangeResult.{RangeResult}
 use Rattle.checks.specs.Checks.{isOutside, checkedRange}
