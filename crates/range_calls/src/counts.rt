@@ -14,6 +14,7 @@ use checks::checked_room;
 use error::CalendarError;
 use error::CountResult;
 use gregorian::Date;
+use trading_days::LONGEST_MONTH;
 
 // The list of a month that is past its check: how many days were written, or error 9.
 fn write_days(market: u32, year: u32, month: u32, out: &mut [u8]) -> CountResult
@@ -21,9 +22,8 @@ fn write_days(market: u32, year: u32, month: u32, out: &mut [u8]) -> CountResult
     ensures { λ r. ⌜ (r ≡ checkedRoom (length (monthList market year month)) (length (now (out .entry))))
         × (now (out .exit) ≡ finalBuffer r (monthList market year month) (now (out .entry))) ⌝ }
 {
-    let list = trading_days::month_days(market, year, month);
-    let count = list.count;
-    let days = list.days;
+    let mut days = [0; LONGEST_MONTH];
+    let count = trading_days::month_days(market, year, month, &mut days);
     match checked_room(count, out.len()) {
         CountResult::Ok(n) => {
             buffers::write(&days[0..count], out);

@@ -15,6 +15,7 @@ use request::Request;
 use request::read_request;
 use sheet_lines::sheet_length;
 use sheet_lines::write_lines;
+use trading_days::LONGEST_MONTH;
 
 // How many bytes were written; error 9 where the sheet does not fit.
 fn write_fitting(market: u32, year: u32, month: u32, days: &[u8], out: &mut [u8]) -> CountResult
@@ -39,9 +40,8 @@ fn sheet_of_month(market: u32, year: u32, month: u32, out: &mut [u8]) -> CountRe
 {
     match checked_month(market, year, month) {
         MonthCheck::Ok => {
-            let list = trading_days::month_days(market, year, month);
-            let count = list.count;
-            let days = list.days;
+            let mut days = [0; LONGEST_MONTH];
+            let count = trading_days::month_days(market, year, month, &mut days);
             write_fitting(market, year, month, &days[0..count], out)
         }
         MonthCheck::Err(e) => CountResult::Err(e),

@@ -90,7 +90,7 @@ pub list-length : (market y m : ℕ) → length (monthList market y m) ≤ 31
 unfolding monthList
 list-length market y m = omega (arith, trading-length (λ day. isTradingDay market (dayNumber y m day)) 1 (monthLength y m), length-high y m)
 
--- The array that `month_days` answers with a count: its part `&days[0..count]` is the list.
+-- The array that `month_days` fills: its part `&days[0..count]` is the list.
 module _ (market y m count : ℕ) (array : List ℕ) (size : length array ≡ 31) (r : (take count array ≡ monthList market y m) × (count ≤ 31)) where
   pub in-array : count ≤ length array
   in-array = omega (arith, size, r .1)

@@ -3,7 +3,7 @@
 ghost use mathlib.Core.Path.{_≡_};
 ghost use mathlib.Core.Bool.{true};
 ghost use Prim.Native.Nat.{_≤_};
-ghost use lib.ListN.{take};
+ghost use lib.ListN.{length, take};
 ghost use Rattle.gregorian.specs.Calendar.{lastDay, isDate};
 ghost use Rattle.markets.specs.Markets.{isTradingDay};
 ghost use Rattle.ranges.specs.Ranges.{countTradingDays};
@@ -12,12 +12,6 @@ use markets::is_trading_day;
 
 // How many days a month has at most.
 pub const LONGEST_MONTH: usize = 31;
-
-// The trading days of a month, by their numbers in it: the first count bytes.
-pub struct MonthDays {
-    pub count: usize,
-    pub days: [u8; LONGEST_MONTH],
-}
 
 // [count]: from the first day to the last, both included; 0 if the last is before the first.
 pub fn count(market: u32, first: u32, last: u32) -> u32
@@ -35,14 +29,14 @@ pub fn count(market: u32, first: u32, last: u32) -> u32
     count
 }
 
-// [month-list]: each day of the month is asked for once.
-pub fn month_days(market: u32, year: u32, month: u32) -> MonthDays
-    requires { ⌜ isDate year month 1 ≡ true ⌝ }
-    ensures { λ r. ⌜ (take (r .count) (r .days) ≡ monthList market year month) × (r .count ≤ 31) ⌝ }
+// [month-list]: how many days of the month trade; so many of the first bytes are then these days, by their numbers in the month. Each
+// day is asked for once.
+pub fn month_days(market: u32, year: u32, month: u32, days: &mut [u8]) -> usize
+    requires { ⌜ (isDate year month 1 ≡ true) × (length (now days) ≡ 31) ⌝ }
+    ensures { λ r. ⌜ (take r (now (days .exit)) ≡ monthList market year month) × (r ≤ 31) ⌝ }
 {
     let length = gregorian::days_in_month(year, month);
     let first = gregorian::day_number(year, month, 1);
-    let mut days = [0; LONGEST_MONTH];
     let mut count = 0;
     let mut day = 1;
     while day <= length {
@@ -52,5 +46,5 @@ pub fn month_days(market: u32, year: u32, month: u32) -> MonthDays
         }
         day += 1;
     }
-    MonthDays { count, days }
+    count
 }

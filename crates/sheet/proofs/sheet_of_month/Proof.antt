@@ -18,22 +18,22 @@ checked : (c : tie.After-enum-told) → (let a = c .before .before .before .befo
 checked c = sym (c .before .before .checked-month .ensures) ∙ c .enum-told .given .1
 
 month-days-requires : tie.Need-month-days-requires
-month-days-requires c κs = month-checked _ _ _ (checked c) .first-date
+month-days-requires c κs = (month-checked _ _ _ (checked (c .before)) .first-date, refl)
 
 module _ (c : tie.After-month-days) where
   abbrev count : ℕ
-  count = c .month-days .result .count
+  count = c .month-days .result
 
   abbrev array : List ℕ
-  array = c .month-days .result .days
+  array = c .month-days .last .1 .1 .1 .0
 
   size : length array ≡ 31
-  size = search needs
+  size = c .month-days .kept .1 .1 .1 .0
 
   in-list : count ≤ length array
   in-list = in-array _ _ _ count array size (c .month-days .ensures)
 
-  days-are : (let a = c .before .before .before .before .before .args in take (count - 0) array ≡ monthList (a .market) (a .year) (a .month))
+  days-are : (let a = c .before .before .before .before .before .before .args in take (count - 0) array ≡ monthList (a .market) (a .year) (a .month))
   days-are = listed _ _ _ count array size (c .month-days .ensures)
 
 part-end : tie.Need-part-write-fitting-end
@@ -42,13 +42,13 @@ part-end c = in-list (c .before .before)
 write-fitting-requires : tie.Need-write-fitting-requires
 write-fitting-requires c κs =
     let s = c .before .before .before .before in
-    let a = s .before .before .before .before .before .args in
+    let a = s .before .before .before .before .before .before .args in
     omega (arith, ap length (days-are s), list-length (a .market) (a .year) (a .month))
 
 returns : tie.Need-returns
 returns c =
     let s = c .before .before .before .before .before .before .before in
-    sheet-written _ _ _ _ _ _ _ (checked (s .before)) (days-are s) (c .before .before .write-fitting .ensures)
+    sheet-written _ _ _ _ _ _ _ (checked (s .before .before)) (days-are s) (c .before .before .write-fitting .ensures)
 
 returns-2 : tie.Need-returns-2
 returns-2 c =
@@ -58,4 +58,4 @@ returns-2 c =
 pub sheet-of-month-spec : {M : Type 1} → statement M
 sheet-of-month-spec =
     tie.close
-    (tie.spec (search needs) (search needs) month-days-requires (search needs) (search needs) part-end write-fitting-requires (search needs) (search needs) returns returns-2)
+    (tie.spec (search needs) (search needs) (search needs) month-days-requires (search needs) (search needs) part-end write-fitting-requires (search needs) (search needs) returns returns-2)

@@ -22,34 +22,34 @@ inMonth market year month day = isTradingDay market (dayNumber year month day)
 
 -- the days so far, with those that are left, are all of the list
 abbrev Inv-loop : tie.InvT-loop
-Inv-loop market year month last first days₀ count₀ day₀ days count day =
+Inv-loop market year month days₀ last first count₀ day₀ days count day =
     (count < day) × (day ≤ suc last) × (last ≤ 31) × (length days ≡ 31) × (monthList market year month ≡ take count days ++ tradingDays (inMonth market year month) day last)
 
 -- the days left
 abbrev μ-loop : tie.MeasureT-loop
-μ-loop market year month last first days₀ count₀ day₀ days count day = suc last - day
+μ-loop market year month days₀ last first count₀ day₀ days count day = suc last - day
 
 -- the day that is asked for, which is one of the years
 asked : (c : tie.In-loop Inv-loop μ-loop)
-    → (let s = c .before .before in let a = s .before .before .args in s .day-number .result + c .before .loop .day - 1 ≡ dayNumber (a .year) (a .month) (c .before .loop .day))
+    → (let s = c .before .before in let a = s .before .before .before .args in s .day-number .result + c .before .loop .day - 1 ≡ dayNumber (a .year) (a .month) (c .before .loop .day))
 asked c = let s = c .before .before in day-of-month _ _ _ _ (s .day-number .ensures) (omega arith)
 
 in-years : (c : tie.In-loop Inv-loop μ-loop)
-    → (let a = c .before .before .before .before .args in let n = dayNumber (a .year) (a .month) (c .before .loop .day) in (1 ≤ n) × (n ≤ lastDay) × (a .year ≡ dateOf n .year))
-in-years c = let s = c .before .before .before in month-in-years _ _ _ (s .before .pre) (omega arith) (omega (arith, s .days-in-month .ensures))
+    → (let a = c .before .before .before .before .before .args in let n = dayNumber (a .year) (a .month) (c .before .loop .day) in (1 ≤ n) × (n ≤ lastDay) × (a .year ≡ dateOf n .year))
+in-years c = let s = c .before .before .before in month-in-years _ _ _ (s .before .before .pre .0) (omega arith) (omega (arith, s .days-in-month .ensures))
 
 day-number-requires : tie.Need-day-number-requires Inv-loop μ-loop
-day-number-requires c κs = c .before .pre
+day-number-requires c κs = c .before .before .pre .0
 
 loop-holds : tie.Need-loop-holds Inv-loop μ-loop
 unfolding monthList
 loop-holds c =
     let s = c .before in
-    let a = s .before .args in (
+    let a = s .before .before .args in (
       omega arith,
       omega arith,
-      omega (arith, month-high (a .year) (a .month) (is-date (a .year) (a .month) 1 (s .before .pre) .exists .m-high)),
-      refl,
+      omega (arith, month-high (a .year) (a .month) (is-date (a .year) (a .month) 1 (s .before .before .pre .0) .exists .m-high)),
+      s .before .before .pre .1,
       ap (tradingDays (inMonth (a .market) (a .year) (a .month)) 1) (sym (s .days-in-month .ensures)),
     )
 
@@ -65,7 +65,7 @@ is-trading-day-requires c κs =
 loop-again : tie.Need-loop-again Inv-loop μ-loop
 loop-again c =
     let s = c .before .before .before in
-    let a = s .before .before .before .args in
+    let a = s .before .before .before .before .args in
     let trades = inMonth (a .market) (a .year) (a .month) in
     let last = s .before .before .days-in-month .result in
     let day = s .loop .day in
@@ -95,7 +95,7 @@ loop-again c =
 returns : tie.Need-returns Inv-loop μ-loop
 returns c =
     let s = c .before in
-    let a = s .before .before .before .args in (
+    let a = s .before .before .before .before .args in (
       sym
           (s .loop .inv .4
           ∙ days-done (inMonth (a .market) (a .year) (a .month)) (s .loop .days) (s .loop .count) (s .loop .day) (s .before .before .days-in-month .result) (omega arith)),
@@ -106,4 +106,4 @@ pub month-days-spec : {M : Type 1} → statement M
 month-days-spec =
     tie.close
     (tie.spec Inv-loop μ-loop (search needs) day-number-requires loop-holds add-is-trading-day (search needs) is-trading-day-requires (search needs) (search needs)
-    (search needs) (search needs) (search needs) loop-again returns)
+    (search needs) (search needs) (search needs) loop-again (search needs) returns)

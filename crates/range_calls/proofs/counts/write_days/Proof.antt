@@ -16,19 +16,19 @@ use Rattle.range_calls.proofs.counts.write_days.Tie as tie
 
 module _ (c : tie.After-month-days) where
   abbrev count : ℕ
-  count = c .month-days .result .count
+  count = c .month-days .result
 
   abbrev array : List ℕ
-  array = c .month-days .result .days
+  array = c .month-days .last .1 .1 .1 .0
 
   abbrev days : List ℕ
-  days = let a = c .before .before .args in monthList (a .market) (a .year) (a .month)
+  days = let a = c .before .before .before .args in monthList (a .market) (a .year) (a .month)
 
   abbrev out : List ℕ
-  out = now (c .before .before .args .out)
+  out = now (c .before .before .before .args .out)
 
   size : length array ≡ 31
-  size = search needs
+  size = c .month-days .kept .1 .1 .1 .0
 
   in-list : count ≤ length array
   in-list = in-array _ _ _ count array size (c .month-days .ensures)
@@ -44,7 +44,7 @@ asked : (c : tie.After-checked-room) → (let s = c .before .before in c .checke
 asked c = let s = c .before .before in c .checked-room .ensures ∙ ap (λ (n : ℕ). checkedRoom n (length (out s))) (as-many s)
 
 month-days-requires : tie.Need-month-days-requires
-month-days-requires c κs = c .before .pre
+month-days-requires c κs = (c .before .before .pre, refl)
 
 part-end : tie.Need-part-write-end
 part-end c = in-list (c .before .before .before .before .before .before)
@@ -69,4 +69,4 @@ returns-2 c = (sym (c .before .e .given .1) ∙ asked (c .before .before .before
 pub write-days-spec : {M : Type 1} → statement M
 write-days-spec =
     tie.close
-    (tie.spec month-days-requires (search needs) (search needs) (search needs) (search needs) part-end write-requires (search needs) (search needs) returns returns-2)
+    (tie.spec (search needs) month-days-requires (search needs) (search needs) (search needs) (search needs) part-end write-requires (search needs) (search needs) returns returns-2)
