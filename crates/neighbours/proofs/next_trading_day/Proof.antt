@@ -1,6 +1,6 @@
 -- `neighbours::next_trading_day` meets its contract: each turn of the loop is one day of the search.
 use Prim.Native.Nat.{ℕ, _-_, _≤_}
-use mathlib.Core.Path.{_≡_, refl, sym, ap, _∙_}
+use mathlib.Core.Path.{_≡_, sym, ap, _∙_}
 use native.Mathlib.Omega.{arith}
 use borrow.Author.Needs.{needs}
 use Rattle.gregorian.specs.Calendar.{lastDay}
@@ -15,20 +15,17 @@ use Rattle.neighbours.proofs.next_trading_day.Tie as tie
 -- what is left to search from the day of the loop is all of the search
 abbrev Inv-loop : tie.InvT-loop
 Inv-loop market n last next₀ next =
-    (n ≤ next) × (next ≤ lastDay) × (last ≤ lastDay) × (nextTradingDay (isTradingDay market) last n ≡ nextTradingDay (isTradingDay market) last next)
+    (n ≤ next) × (next ≤ lastDay) × (last ≤ lastDay) × (nextTradingDay (isTradingDay market) (lastDayOf market) n ≡ nextTradingDay (isTradingDay market) last next)
 
 -- the days left
 abbrev μ-loop : tie.MeasureT-loop
 μ-loop market n last next₀ next = last - next
 
-up-to : (c : tie.After-last-day-of Inv-loop μ-loop)
-    → (let a = c .before .args in nextTradingDay (isTradingDay (a .market)) (lastDayOf (a .market)) (a .n) ≡ nextTradingDay (isTradingDay (a .market)) (c .last-day-of .result) (a .n))
-up-to c = let a = c .before .args in ap (λ (last : ℕ). nextTradingDay (isTradingDay (a .market)) last (a .n)) (sym (c .last-day-of .ensures))
-
 loop-holds : tie.Need-loop-holds Inv-loop μ-loop
 loop-holds c =
+    let a = c .before .args in
     let last = c .last-day-of .ensures in
-    (omega arith, omega arith, omega (arith, last, searched-days (c .before .args .market)), refl)
+    (omega arith, omega arith, omega (arith, last, searched-days (a .market)), ap (λ (day : ℕ). nextTradingDay (isTradingDay (a .market)) day (a .n)) (sym last))
 
 year-of-requires : tie.Need-year-of-requires Inv-loop μ-loop
 year-of-requires c κs = (omega arith, omega arith)
@@ -40,7 +37,7 @@ returns : tie.Need-returns Inv-loop μ-loop
 returns c =
     let s = c .before .before .before .before in
     sym
-    (up-to (s .before) ∙ s .loop .inv .3
+    (s .loop .inv .3
     ∙ next-found (isTradingDay (s .before .before .args .market)) (s .before .last-day-of .result) (s .loop .next) (omega arith)
     (sym (c .before .is-trading-day .ensures) ∙ c .if1 .taken))
 
@@ -59,7 +56,7 @@ returns-2 : tie.Need-returns-2 Inv-loop μ-loop
 returns-2 c =
     let s = c .before in
     sym
-    (up-to (s .before) ∙ s .loop .inv .3
+    (s .loop .inv .3
     ∙ next-none (isTradingDay (s .before .before .args .market)) (s .before .last-day-of .result) (s .loop .next) (omega arith))
 
 pub next-trading-day-spec : {M : Type 1} → statement M

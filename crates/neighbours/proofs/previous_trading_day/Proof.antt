@@ -1,6 +1,6 @@
 -- `neighbours::previous_trading_day` meets its contract: each turn of the loop is one day of the search.
 use Prim.Native.Nat.{ℕ, _≤_}
-use mathlib.Core.Path.{_≡_, refl, sym, ap, _∙_}
+use mathlib.Core.Path.{_≡_, sym, ap, _∙_}
 use native.Mathlib.Omega.{arith}
 use borrow.Author.Needs.{needs}
 use Rattle.markets.specs.Markets.{isTradingDay}
@@ -14,20 +14,17 @@ use Rattle.neighbours.proofs.previous_trading_day.Tie as tie
 -- what is left to search from the day of the loop is all of the search
 abbrev Inv-loop : tie.InvT-loop
 Inv-loop market n first previous₀ previous =
-    (1 ≤ previous) × (previous ≤ n) × (1 ≤ first) × (previousTradingDay (isTradingDay market) first n ≡ previousTradingDay (isTradingDay market) first previous)
+    (1 ≤ previous) × (previous ≤ n) × (1 ≤ first) × (previousTradingDay (isTradingDay market) (firstDayOf market) n ≡ previousTradingDay (isTradingDay market) first previous)
 
 -- the days left
 abbrev μ-loop : tie.MeasureT-loop
 μ-loop market n first previous₀ previous = previous
 
-down-to : (c : tie.After-first-day-of Inv-loop μ-loop)
-    → (let a = c .before .args in previousTradingDay (isTradingDay (a .market)) (firstDayOf (a .market)) (a .n) ≡ previousTradingDay (isTradingDay (a .market)) (c .first-day-of .result) (a .n))
-down-to c = let a = c .before .args in ap (λ (first : ℕ). previousTradingDay (isTradingDay (a .market)) first (a .n)) (sym (c .first-day-of .ensures))
-
 loop-holds : tie.Need-loop-holds Inv-loop μ-loop
 loop-holds c =
+    let a = c .before .args in
     let first = c .first-day-of .ensures in
-    (omega arith, omega arith, omega (arith, first, searched-days (c .before .args .market)), refl)
+    (omega arith, omega arith, omega (arith, first, searched-days (a .market)), ap (λ (day : ℕ). previousTradingDay (isTradingDay (a .market)) day (a .n)) (sym first))
 
 year-of-requires : tie.Need-year-of-requires Inv-loop μ-loop
 year-of-requires c κs = (omega arith, omega arith)
@@ -39,7 +36,7 @@ returns : tie.Need-returns Inv-loop μ-loop
 returns c =
     let s = c .before .before .before .before in
     sym
-    (down-to (s .before) ∙ s .loop .inv .3
+    (s .loop .inv .3
     ∙ previous-found (isTradingDay (s .before .before .args .market)) (s .before .first-day-of .result) (s .loop .previous) (omega arith) (omega arith)
     (sym (c .before .is-trading-day .ensures) ∙ c .if1 .taken))
 
@@ -58,7 +55,7 @@ returns-2 : tie.Need-returns-2 Inv-loop μ-loop
 returns-2 c =
     let s = c .before in
     sym
-    (down-to (s .before) ∙ s .loop .inv .3
+    (s .loop .inv .3
     ∙ previous-none (isTradingDay (s .before .before .args .market)) (s .before .first-day-of .result) (s .loop .previous) (omega arith) (omega arith))
 
 pub previous-trading-day-spec : {M : Type 1} → statement M
