@@ -7,7 +7,7 @@ use Rattle.utils.specs.declared.OptionalDay.the-variants.{Day, None}
 use Rattle.markets.specs.Markets.{isMarket, isTradingDay, isHoliday}
 use Rattle.all_years.specs.declared.DayAnswer.{DayAnswer}
 
--- the day number of a date, of a market
+-- the day number of a date, where the code is a market's
 unfoldable pub knownDay : ℕ → ℕ → ℕ → ℕ → OptionalDay
 knownDay market year month day = cond (isMarket market && isDate year month day) (Day (dayNumber year month day)) None
 

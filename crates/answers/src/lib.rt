@@ -59,11 +59,6 @@ pub fn nth_weekday_answer(year: u32, month: u32, weekday: u32, nth: u8) -> Optio
     optional_date(nth_weekday_of_month(year, month, weekday, nth))
 }
 
-// The days of March on which the two days beside Easter are at the earliest.
-pub const EARLIEST_GOOD_FRIDAY: u32 = 20;
-
-pub const EARLIEST_EASTER_MONDAY: u32 = 23;
-
 // Easter Sunday, or a day before or after it, by the day of March on which it is at the earliest, as Easter on the 22nd.
 pub fn easter_answer(year: u32, march_day: u32) -> OptionalDate
     requires { ⌜ (1 ≤ «march_day») × («march_day» ≤ 27) ⌝ }

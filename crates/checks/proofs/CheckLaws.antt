@@ -19,7 +19,7 @@ use Rattle.error.specs.declared.CalendarError.the-variants.{TimeOutOfRange, Dat
 use Rattle.checks.specs.declared.DayResult.{DayResult}
 use Rattle.checks.specs.declared.MonthCheck.{MonthCheck}
 use Rattle.checks.specs.declared.RangeResult.{RangeResult}
-use Rattle.checks.specs.Checks.{checkedDay, tryDay, supportedDay, isMonth, checkedMonth, tryMonth, isOutside, checkedRange, tryRange, checkedRoom}
+use Rattle.checks.specs.Checks.{checkedDay, tryDay, supportedDay, isMonth, checkedMonth, tryMonth, leavesYears, checkedRange, tryRange, checkedRoom}
 
 -- Where a ladder comes to no error, its first test found none, and the rest comes to none.
 module _ {A : Type 0} (failed : A → Bool) (ok : A) (h : failed ok ≡ false) where
@@ -43,10 +43,16 @@ pub record CheckedDay (market year month day n : ℕ) : Type 0 where
   pub number-is : n ≡ dayNumber year month day
   pub in-years : (1 ≤ n) × (n ≤ lastDay) × (year ≡ dateOf n .year)
 
+-- and of a supported year, with a time in range
+pub record SupportedDay (market year month day : ℕ) (timeInRange : Bool) (n : ℕ) : Type 0 where
+  pub checked : CheckedDay market year month day n
+  pub time : timeInRange ≡ true
+  pub supported : isSupported year ≡ true
+
 module _ (market year month day : ℕ) where
-  pub checked-day : isMarket market ≡ true → isDate year month day ≡ true → checkedDay market year month day ≡ DayResult.Ok (dayNumber year month day)
+  pub day-passes : isMarket market ≡ true → isDate year month day ≡ true → checkedDay market year month day ≡ DayResult.Ok (dayNumber year month day)
   unfolding checkedDay
-  checked-day k d = simp (k, d)
+  day-passes k d = simp (k, d)
 
   abbrev failed : DayResult → Bool
   failed r = tryDay r (λ e. true) (λ n. false)
@@ -66,32 +72,25 @@ module _ (market year month day : ℕ) where
         in-years = (omega (arith, e, r), omega (arith, e, r), year-of-number year month day d ∙ ap (λ (i : ℕ). dateOf i .year) (sym e));
       }
 
-  -- A supported day is past the same checks, and two more.
+  -- what follows the same checks for a supported day
   abbrev past-checked : Bool → ℕ → DayResult
   past-checked timeInRange n =
       cond (not timeInRange) (DayResult.Err TimeOutOfRange)
       (cond (not (isSupported year)) (DayResult.Err (DateOutOfRange (date year month day)))
       (DayResult.Ok n))
 
-  pub supported-checked : (timeInRange : Bool) (n : ℕ) → supportedDay market year month day timeInRange ≡ DayResult.Ok n → CheckedDay market year month day n
+  pub supported-checked : (timeInRange : Bool) (n : ℕ) → supportedDay market year month day timeInRange ≡ DayResult.Ok n → SupportedDay market year month day timeInRange n
   unfolding supportedDay
   supported-checked timeInRange n q = by (checkedDay market year month day) refl q
     where
-      by : (r : DayResult) → checkedDay market year month day ≡ r → tryDay r DayResult.Err (past-checked timeInRange) ≡ DayResult.Ok n → CheckedDay market year month day n
+      by : (r : DayResult) → checkedDay market year month day ≡ r → tryDay r DayResult.Err (past-checked timeInRange) ≡ DayResult.Ok n → SupportedDay market year month day timeInRange n
       by (DayResult.Ok k) c p =
           let past₇ = passed failed (DayResult.Ok n) refl (not timeInRange) _ _ refl p in
           let past₁ = passed failed (DayResult.Ok n) refl (not (isSupported year)) _ _ refl (past₇ .1) in
-          day-checked n (c ∙ past₁ .1)
+          record { checked = day-checked n (c ∙ past₁ .1); time = not-false timeInRange (past₇ .0); supported = not-false (isSupported year) (past₁ .0) }
       by (DayResult.Err e) c p = absurd (let z : _≡_ {A = ℕ} 0 1 = cc in omega arith)
 
 -- ---- a month of a market
-
-module _ {A : Type 0} (error : CalendarError → A) (rest : A) (r : MonthCheck) where
-  pub past-month : (a : A) → MonthCheck.Ok ≡ r → a ≡ rest → a ≡ tryMonth r error rest
-  past-month a q e = e ∙ ap (λ (m : MonthCheck). tryMonth m error rest) q
-
-  pub past-month-error : (e : CalendarError) → MonthCheck.Err e ≡ r → error e ≡ tryMonth r error rest
-  past-month-error e q = ap (λ (m : MonthCheck). tryMonth m error rest) q
 
 -- a month of a supported year of a known market
 pub record CheckedMonth (market year month : ℕ) : Type 0 where
@@ -102,9 +101,9 @@ pub record CheckedMonth (market year month : ℕ) : Type 0 where
   pub first-date : isDate year month 1 ≡ true
 
 module _ (market year month : ℕ) where
-  pub checked-month : isMarket market ≡ true → isSupported year ≡ true → 1 ≤ month → month ≤ 12 → checkedMonth market year month ≡ MonthCheck.Ok
+  pub month-passes : isMarket market ≡ true → isSupported year ≡ true → 1 ≤ month → month ≤ 12 → checkedMonth market year month ≡ MonthCheck.Ok
   unfolding checkedMonth isMonth
-  checked-month k s l u = simp (k, s, le-leb 1 month l, le-leb month 12 u)
+  month-passes k s l u = simp (k, s, le-leb 1 month l, le-leb month 12 u)
 
   abbrev failed-month : MonthCheck → Bool
   failed-month r = tryMonth r (λ e. true) false
@@ -148,9 +147,9 @@ pub record CheckedRange (start end : Date) (a b : ℕ) : Type 0 where
   pub in-years : (1 ≤ a) × (a ≤ lastDay) × (1 ≤ b) × (b ≤ lastDay)
 
 module _ (start end : Date) where
-  pub checked-range : isDateOf start ≡ true → isDateOf end ≡ true → minYear ≤ start .year → end .year ≤ maxYear → checkedRange start end ≡ RangeResult.Ok (number start) (number end)
-  unfolding checkedRange isOutside
-  checked-range p q l u = simp (p, q, le-ltb (start .year) minYear l, le-ltb maxYear (end .year) u)
+  pub range-passes : isDateOf start ≡ true → isDateOf end ≡ true → minYear ≤ start .year → end .year ≤ maxYear → checkedRange start end ≡ RangeResult.Ok (number start) (number end)
+  unfolding checkedRange leavesYears
+  range-passes p q l u = simp (p, q, le-ltb (start .year) minYear l, le-ltb maxYear (end .year) u)
 
   abbrev failed-range : RangeResult → Bool
   failed-range r = tryRange r (λ e. true) (λ a b. false)
@@ -160,12 +159,12 @@ module _ (start end : Date) where
   neither false q e = (refl, e)
 
   pub range-checked : (a b : ℕ) → checkedRange start end ≡ RangeResult.Ok a b → CheckedRange start end a b
-  unfolding checkedRange isOutside
+  unfolding checkedRange leavesYears
   range-checked a b q =
       let ok = RangeResult.Ok a b in
       let past₅ = passed failed-range ok refl (not (isDateOf start)) _ _ refl q in
       let past₅′ = passed failed-range ok refl (not (isDateOf end)) _ _ refl (past₅ .1) in
-      let past₁ = passed failed-range ok refl (isOutside (start .year) (end .year)) _ _ refl (past₅′ .1) in
+      let past₁ = passed failed-range ok refl (leavesYears (start .year) (end .year)) _ _ refl (past₅′ .1) in
       let s = not-false (isDateOf start) (past₅ .0) in
       let e = not-false (isDateOf end) (past₅′ .0) in
       let years = neither (ltb (start .year) minYear) _ (past₁ .0) in

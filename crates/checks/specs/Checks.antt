@@ -67,16 +67,16 @@ tryMonth (MonthCheck.Err e) error rest = error e
 
 -- ---- a range of dates
 
--- [count]: the start is before the supported years, or the end after them
-unfoldable pub isOutside : ℕ → ℕ → Bool
-isOutside startYear endYear = ltb startYear minYear || ltb maxYear endYear
+-- [count]: the rule of the years, by the start's and the end's
+unfoldable pub leavesYears : ℕ → ℕ → Bool
+leavesYears startYear endYear = ltb startYear minYear || ltb maxYear endYear
 
 -- [count]: errors 5 for the start, 5 for the end, and 1 with the start, or both day numbers. The market, or the markets, are checked before.
 unfoldable pub checkedRange : Date → Date → RangeResult
 checkedRange start end =
     cond (not (isDateOf start)) (RangeResult.Err InvalidDate)
     (cond (not (isDateOf end)) (RangeResult.Err InvalidDate)
-    (cond (isOutside (start .year) (end .year)) (RangeResult.Err (DateOutOfRange start))
+    (cond (leavesYears (start .year) (end .year)) (RangeResult.Err (DateOutOfRange start))
     (RangeResult.Ok (number start) (number end))))
 
 -- `?`, as for a day

@@ -3,7 +3,7 @@
 ghost use mathlib.Core.Path.{_≡_};
 ghost use Prim.Native.Nat.{_<_, _^_};
 ghost use Rattle.checks.specs.Checks.{isTime, checkedDay, supportedDay, isMonth, monthErrorDate, checkedMonth};
-ghost use Rattle.checks.specs.Checks.{isOutside, checkedRange, checkedRoom};
+ghost use Rattle.checks.specs.Checks.{leavesYears, checkedRange, checkedRoom};
 use error::CalendarError;
 use error::CountResult;
 use gregorian::Date;
@@ -119,9 +119,9 @@ pub enum RangeResult {
     Err(CalendarError),
 }
 
-// [count]: the year rule of a range.
-fn is_outside(start_year: u32, end_year: u32) -> bool
-    ensures { λ r. ⌜ r ≡ isOutside «start_year» «end_year» ⌝ }
+// [count]: whether the start is before the supported years, or the end after them.
+fn leaves_years(start_year: u32, end_year: u32) -> bool
+    ensures { λ r. ⌜ r ≡ leavesYears «start_year» «end_year» ⌝ }
 {
     (start_year < MIN_YEAR) | (MAX_YEAR < end_year)
 }
@@ -130,14 +130,16 @@ fn is_outside(start_year: u32, end_year: u32) -> bool
 pub fn checked_range(start: Date, end: Date) -> RangeResult
     ensures { λ r. ⌜ r ≡ checkedRange start end ⌝ }
 {
-    let is_outside = is_outside(start.year, end.year);
-    if !is_date(start.year, start.month, start.day) {
+    let starts = is_date(start.year, start.month, start.day);
+    let ends = is_date(end.year, end.month, end.day);
+    let leaves_years = leaves_years(start.year, end.year);
+    if !starts {
         return RangeResult::Err(CalendarError::InvalidDate);
     }
-    if !is_date(end.year, end.month, end.day) {
+    if !ends {
         return RangeResult::Err(CalendarError::InvalidDate);
     }
-    if is_outside {
+    if leaves_years {
         return RangeResult::Err(CalendarError::DateOutOfRange(start));
     }
     let first = day_number(start.year, start.month, start.day);

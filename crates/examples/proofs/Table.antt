@@ -14,7 +14,7 @@ use Rattle.error.specs.declared.CountResult.{CountResult}
 use Rattle.error.specs.declared.CalendarError.the-variants.{UnknownMarket}
 use Rattle.error.specs.Errors.{errorFields}
 use Rattle.range_calls.specs.declared.TradingDayResult.{TradingDayResult}
-use Rattle.checks.specs.Checks.{checkedDay, tryDay, supportedDay, isOutside, checkedRange, tryRange}
+use Rattle.checks.specs.Checks.{checkedDay, tryDay, supportedDay, leavesYears, checkedRange, tryRange}
 use Rattle.range_calls.specs.RangeCalls.{distanceOf}
 use Rattle.answers.specs.declared.BoolAnswer.{BoolAnswer}
 use Rattle.answers.specs.declared.neighbours.TradingDayAnswer.{TradingDayAnswer}
@@ -62,7 +62,7 @@ all-hold [] q = tt
 all-hold (e ∷ rows) q = (holds e cc, all-hold rows cc)
 
 all-computed : map computed examples ≡ examples
-unfolding daysFrom computed holidayRule tradingRule closedOptional closedNextResult countFrom distanceOf isMarket isSupported lastDayOf checkedDay supportedDay isOutside checkedRange flagOf boolAnswer tradingDayAnswer countAnswer errorFields
+unfolding daysFrom computed holidayRule tradingRule closedOptional closedNextResult countFrom distanceOf isMarket isSupported lastDayOf checkedDay supportedDay leavesYears checkedRange flagOf boolAnswer tradingDayAnswer countAnswer errorFields
 all-computed = refl
 
 pub examples-hold : ExamplesHold

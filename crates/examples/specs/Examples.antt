@@ -47,9 +47,13 @@ tse = 3
 abbrev pub tsx : ℕ
 tsx = 4
 
--- a row that names no market, for the code of each
+-- the numbers from 0 on, as many as there are markets
+abbrev pub codes : List ℕ
+codes = daysFrom 0 (length holidaysByCode)
+
+-- a row that names no market, for each of them
 abbrev pub forEachMarket : (ℕ → Example) → List Example
-forEachMarket row = map row (daysFrom 0 (length holidaysByCode))
+forEachMarket row = map row codes
 
 -- the rows of [examples], in its order
 abbrev pub examples : List Example

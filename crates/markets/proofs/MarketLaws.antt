@@ -8,7 +8,7 @@ use lib.Dec.{ltb, leb}
 use lib.ListN.{length, List·getD-eq-default}
 use native.Mathlib.Decide.{decLe}
 use native.Mathlib.Omega.{arith}
-use borrow.Author.Tests.{lt-ltb, le-ltb, ltb-true, ltb-false, lt-leb, le-leb}
+use borrow.Author.Tests.{lt-ltb, le-ltb, ltb-true, lt-leb, le-leb}
 use Rattle.gregorian.specs.Calendar.{lastYear, lastDay, dateOf}
 use Rattle.gregorian.proofs.Laws.{is-date, date-of-is}
 use Rattle.gregorian.proofs.Total.{upto}
@@ -29,10 +29,6 @@ up-to-last m last = elim (decLe m last) [
 pub market-code : (m : ℕ) → isMarket m ≡ true → m < length holidaysByCode
 unfolding isMarket
 market-code m e = ltb-true m (length holidaysByCode) e
-
-pub other-code : (m : ℕ) → isMarket m ≡ false → length holidaysByCode ≤ m
-unfolding isMarket
-other-code m e = ltb-false m (length holidaysByCode) e
 
 -- ---- the holidays
 

@@ -11,7 +11,7 @@ use Rattle.trading_days.specs.Month.{monthList}
 use Rattle.error.specs.declared.CountResult.{CountResult}
 use Rattle.checks.specs.declared.MonthCheck.{MonthCheck}
 use Rattle.checks.specs.Checks.{checkedMonth, tryMonth, checkedRoom, finalBuffer}
-use Rattle.checks.proofs.CheckLaws.{checked-month}
+use Rattle.checks.proofs.CheckLaws.{month-passes}
 use Rattle.range_calls.specs.RangeCalls.{tradingDaysInMonthResult, tradingDaysInMonthBuffer}
 
 module _ (market year month : ℕ) (buffer : List ℕ) where
@@ -33,4 +33,4 @@ module _ (market year month : ℕ) (buffer : List ℕ) where
   -- In a month of the supported years the list is written into the buffer, if it fits.
   pub month-of-years : isMarket market ≡ true → isSupported year ≡ true → 1 ≤ month → month ≤ 12
       → tradingDaysInMonthResult market year month buffer ≡ checkedRoom (length days) (length buffer)
-  month-of-years k s l u = sym (month-by-check MonthCheck.Ok _ _ (sym (checked-month market year month k s l u)) refl refl .0)
+  month-of-years k s l u = sym (month-by-check MonthCheck.Ok _ _ (sym (month-passes market year month k s l u)) refl refl .0)

@@ -13,7 +13,7 @@ use Rattle.checks.specs.declared.DayResult.{DayResult}
 use Rattle.range_calls.specs.declared.TradingDayResult.{TradingDayResult}
 use Rattle.checks.specs.Checks.{checkedDay}
 use Rattle.range_calls.specs.RangeCalls.{distanceOf, tradingDayResult, neighbourResult}
-use Rattle.checks.proofs.CheckLaws.{past-day, checked-day}
+use Rattle.checks.proofs.CheckLaws.{past-day, day-passes}
 
 -- The distance to a later day, and to an earlier one.
 module _ (n m r : ℕ) where
@@ -60,4 +60,4 @@ neighbour-is neighbour market year month day n o r q e f =
 -- What a call answers on a date.
 pub neighbour-of-date : (neighbour : ℕ → OptionalDay) (market year month day : ℕ) → isMarket market ≡ true → isDate year month day ≡ true
     → neighbourResult neighbour market year month day ≡ tradingDayResult year (dayNumber year month day) (neighbour (dayNumber year month day))
-neighbour-of-date neighbour market year month day h d = simp (checked-day market year month day h d)
+neighbour-of-date neighbour market year month day h d = simp (day-passes market year month day h d)

@@ -24,7 +24,7 @@ use Rattle.checks.specs.Checks.{checkedDay, tryDay, checkedMonth, tryMonth, che
 unfoldable pub distanceOf : ℕ → ℕ → ℕ
 distanceOf n m = cond (ltb n m) (m - n) (n - m)
 
--- The answer m to a call on day n of that year, with its distance and [outside]: the mark is set if either is outside the years.
+-- The answer m to a call on day n of that year, with its distance and [outside]: the mark is set if either is outside the supported years.
 unfoldable pub tradingDay : ℕ → ℕ → ℕ → TradingDay
 tradingDay year n m =
     record { date = dateOf m; distance = distanceOf n m; outside = not (isSupported year) || not (isSupported (dateOf m .year)) }

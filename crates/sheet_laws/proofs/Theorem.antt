@@ -20,7 +20,7 @@ use Rattle.buffers.specs.Buffers.{overwrite}
 use Rattle.buffers.proofs.BufferLaws.{overwrite-start}
 use Rattle.error.specs.declared.CountResult.{CountResult}
 use Rattle.checks.specs.Checks.{checkedRoom, finalBuffer}
-use Rattle.checks.proofs.CheckLaws.{CheckedMonth, checked-month, month-checked, room-enough, room-checked}
+use Rattle.checks.proofs.CheckLaws.{CheckedMonth, month-passes, month-checked, room-enough, room-checked}
 use Rattle.range_calls.specs.RangeCalls.{tradingDaysInMonthResult, tradingDaysInMonthBuffer}
 use Rattle.range_calls.proofs.MonthLaws.{month-of-years}
 use Rattle.answers.specs.Answers.{countAnswer}
@@ -182,7 +182,7 @@ answered : (text buffer : List ℕ) (market year month : ℕ) → readRequest te
     → 1 ≤ month → month ≤ 12 → 136 ≤ length buffer → (n : ℕ) × (sheetCall text buffer ≡ counted n)
 answered text buffer market year month e k s l u room =
     let bytes = monthSheet market year month in
-    let checked = checked-month market year month k s l u in
+    let checked = month-passes market year month k s l u in
     let short = sheet-fits market year month (month-checked market year month checked) in (
       length bytes,
       ap (λ (r : Request). countAnswer (sheetWritten (sheetOfRequest r) buffer)) e

@@ -11,14 +11,14 @@ ghost use Rattle.utils.specs.Easter.{calculateEaster, calculateGoodFriday, calc
 ghost use Rattle.calendar.specs.Calls.{isTradingDayResult, isHolidayResult};
 ghost use Rattle.answers.specs.Answers.{optionalDate, boolAnswer};
 use answers::BoolAnswer;
-use answers::EARLIEST_EASTER_MONDAY;
-use answers::EARLIEST_GOOD_FRIDAY;
 use answers::OptionalDate;
 use answers::bool_answer;
 use answers::easter_answer;
 use answers::nth_weekday_answer;
 use answers::optional_date;
 use utils::easter::EARLIEST_EASTER;
+use utils::easter::EARLIEST_EASTER_MONDAY;
+use utils::easter::EARLIEST_GOOD_FRIDAY;
 
 // [nth-weekday]: none for nth = 0, and for a weekday, a month, a year or an answer out of range.
 #[no_mangle]

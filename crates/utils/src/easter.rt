@@ -6,8 +6,12 @@ ghost use Rattle.gregorian.specs.Calendar.{lastYear, dayNumber};
 ghost use Rattle.utils.specs.Easter.{moonDays, easter, calculateEaster, calculateGoodFriday, calculateEasterMonday};
 use crate::OptionalDay;
 
-// The day of March on which Easter is at the earliest.
+// The days of March on which Easter and the two days beside it are at the earliest.
+pub const EARLIEST_GOOD_FRIDAY: u32 = 20;
+
 pub const EARLIEST_EASTER: u32 = 22;
+
+pub const EARLIEST_EASTER_MONDAY: u32 = 23;
 
 // h of the algorithm, from its a and b.
 fn moon_days(a: u32, b: u32) -> u32

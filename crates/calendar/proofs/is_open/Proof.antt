@@ -5,8 +5,7 @@ use borrow.Author.Needs.{needs}
 use Rattle.gregorian.specs.Calendar.{date}
 use Rattle.checks.specs.declared.DayResult.{DayResult}
 use Rattle.error.specs.declared.BoolResult.{BoolResult}
-use Rattle.checks.specs.Checks.{isTime}
-use Rattle.checks.specs.Checks.{supportedDay}
+use Rattle.checks.specs.Checks.{isTime, supportedDay}
 use Rattle.checks.proofs.CheckLaws.{supported-checked, past-day, past-day-error}
 use Rattle.calendar.proofs.is_open.Statement.{statement}
 use Rattle.calendar.proofs.is_open.Tie as tie
@@ -20,7 +19,7 @@ day : (c : tie.After-n) → (let a = c .before .before .before .before .args in 
 day c = sym (checked (c .before .before)) ∙ c .n .given .1
 
 is-trading-day-requires : tie.Need-is-trading-day-requires
-is-trading-day-requires c κs = supported-checked _ _ _ _ _ _ (day (c .before)) .in-years
+is-trading-day-requires c κs = supported-checked _ _ _ _ _ _ (day (c .before)) .checked .in-years
 
 returns : tie.Need-returns
 returns c =

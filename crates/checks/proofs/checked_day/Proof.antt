@@ -7,7 +7,7 @@ use Rattle.gregorian.specs.Calendar.{isDate}
 use Rattle.markets.specs.Markets.{isMarket}
 use Rattle.checks.specs.declared.DayResult.{DayResult}
 use Rattle.checks.specs.Checks.{checkedDay}
-use Rattle.checks.proofs.CheckLaws.{checked-day}
+use Rattle.checks.proofs.CheckLaws.{day-passes}
 use Rattle.checks.proofs.checked_day.Statement.{statement}
 use Rattle.checks.proofs.checked_day.Tie as tie
 
@@ -29,7 +29,7 @@ day-number-requires : tie.Need-day-number-requires
 day-number-requires c κs = is-date c
 
 returns-3 : tie.Need-returns-3
-returns-3 c = ap DayResult.Ok (c .day-number .ensures) ∙ sym (checked-day _ _ _ _ (known (c .before .before)) (is-date (c .before)))
+returns-3 c = ap DayResult.Ok (c .day-number .ensures) ∙ sym (day-passes _ _ _ _ (known (c .before .before)) (is-date (c .before)))
 
 pub checked-day-spec : {M : Type 1} → statement M
 checked-day-spec = tie.close (tie.spec (search needs) (search needs) returns returns-2 day-number-requires returns-3)

@@ -6,41 +6,41 @@ use borrow.Author.Needs.{needs}
 use Rattle.gregorian.specs.Calendar.{isDateOf}
 use Rattle.error.specs.declared.CalendarError.the-variants.{DateOutOfRange}
 use Rattle.checks.specs.declared.RangeResult.{RangeResult}
-use Rattle.checks.specs.Checks.{isOutside, checkedRange}
+use Rattle.checks.specs.Checks.{leavesYears, checkedRange}
 use Rattle.checks.proofs.checked_range.Statement.{statement}
 use Rattle.checks.proofs.checked_range.Tie as tie
 
-start : (c : tie.Else1) → isDateOf (c .before .before .before .args .start) ≡ true
-start c = sym (c .before .is-date .ensures) ∙ not-false _ (c .if1 .left)
+start : (c : tie.Else1) → isDateOf (c .before .before .before .before .args .start) ≡ true
+start c = sym (c .before .before .before .is-date .ensures) ∙ not-false _ (c .if1 .left)
 
 end : (c : tie.Else2) → isDateOf (c .before .before .before .before .before .args .end) ≡ true
-end c = sym (c .before .is-date2 .ensures) ∙ not-false _ (c .if2 .left)
+end c = sym (c .before .before .before .is-date2 .ensures) ∙ not-false _ (c .if2 .left)
 
 -- past both dates, by the years
 module _ (c : tie.Else2) where
   abbrev s : tie.Start
   s = c .before .before .before .before .before
 
-  outside : (b : Bool) → c .before .before .before .before .is-outside .result ≡ b → isOutside (s .args .start .year) (s .args .end .year) ≡ b
-  outside b e = sym (c .before .before .before .before .is-outside .ensures) ∙ e
+  years : (b : Bool) → c .before .before .leaves-years .result ≡ b → leavesYears (s .args .start .year) (s .args .end .year) ≡ b
+  years b e = sym (c .before .before .leaves-years .ensures) ∙ e
 
-  error-1 : isOutside (s .args .start .year) (s .args .end .year) ≡ true → checkedRange (s .args .start) (s .args .end) ≡ RangeResult.Err (DateOutOfRange (s .args .start))
+  error-1 : leavesYears (s .args .start .year) (s .args .end .year) ≡ true → checkedRange (s .args .start) (s .args .end) ≡ RangeResult.Err (DateOutOfRange (s .args .start))
   unfolding checkedRange
-  error-1 o = simp (start (c .before .before), end c, o)
+  error-1 o = simp (start (c .before), end c, o)
 
 returns : tie.Need-returns
 unfolding checkedRange
-returns c = simp (sym (c .before .is-date .ensures) ∙ not-true _ (c .if1 .taken))
+returns c = simp (sym (c .before .before .before .is-date .ensures) ∙ not-true _ (c .if1 .taken))
 
 returns-2 : tie.Need-returns-2
 unfolding checkedRange
-returns-2 c = simp (start (c .before .before), sym (c .before .is-date2 .ensures) ∙ not-true _ (c .if2 .taken))
+returns-2 c = simp (start (c .before), sym (c .before .before .before .is-date2 .ensures) ∙ not-true _ (c .if2 .taken))
 
 returns-3 : tie.Need-returns-3
-returns-3 c = sym (error-1 (c .before) (outside (c .before) _ (c .if3 .taken)))
+returns-3 c = sym (error-1 (c .before) (years (c .before) _ (c .if3 .taken)))
 
 day-number-requires : tie.Need-day-number-requires
-day-number-requires c κs = start (c .before .before .before)
+day-number-requires c κs = start (c .before .before)
 
 day-number-requires-2 : tie.Need-day-number-requires-2
 day-number-requires-2 c κs = end (c .before .before)
@@ -49,8 +49,8 @@ returns-4 : tie.Need-returns-4
 unfolding checkedRange
 returns-4 c =
     let e = c .before .before in
-    simp (start (e .before .before .before), end (e .before), outside (e .before) _ (e .if3 .left)) (ap₂ RangeResult.Ok (c .before .day-number .ensures) (c .day-number2 .ensures))
+    simp (start (e .before .before), end (e .before), years (e .before) _ (e .if3 .left)) (ap₂ RangeResult.Ok (c .before .day-number .ensures) (c .day-number2 .ensures))
 
 pub checked-range-spec : {M : Type 1} → statement M
 checked-range-spec =
-    tie.close (tie.spec (search needs) (search needs) returns (search needs) returns-2 returns-3 day-number-requires day-number-requires-2 returns-4)
+    tie.close (tie.spec (search needs) (search needs) (search needs) returns returns-2 returns-3 day-number-requires day-number-requires-2 returns-4)

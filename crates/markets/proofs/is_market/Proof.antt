@@ -6,7 +6,7 @@ use Rattle.markets.proofs.is_market.Tie as tie
 
 returns : tie.Need-returns
 unfolding isMarket
-returns c = up-to-last (c .args .market) 4
+returns c = up-to-last (c .args .market) _
 
 pub is-market-spec : {M : Type 1} → statement M
 is-market-spec = tie.close (tie.spec returns)
