@@ -71,7 +71,7 @@ tryMonth (MonthCheck.Err e) error rest = error e
 unfoldable pub leavesYears : ℕ → ℕ → Bool
 leavesYears startYear endYear = ltb startYear minYear || ltb maxYear endYear
 
--- [count]: errors 5 for the start, 5 for the end, and 1 with the start, or both day numbers. The market, or the markets, are checked before.
+-- [count]: errors 5 for the start, 5 for the end, and 1 with the start, or both day numbers. A market is checked before.
 unfoldable pub checkedRange : Date → Date → RangeResult
 checkedRange start end =
     cond (not (isDateOf start)) (RangeResult.Err InvalidDate)
@@ -86,7 +86,7 @@ tryRange (RangeResult.Err e) error rest = error e
 
 -- ---- a buffer for entries, be they bytes or numbers
 
--- How many entries are written, all that are needed, into a buffer with room for so many; error 9 with those needed where it has less.
+-- how many entries are written: those needed, or error 9 with their number where there is less room
 unfoldable pub checkedRoom : ℕ → ℕ → CountResult
 checkedRoom needed room = cond (ltb room needed) (CountResult.Err (BufferTooSmall needed)) (CountResult.Ok needed)
 

@@ -89,7 +89,7 @@ fn month_error_date(year: u32, month: u32) -> Date
     }
 }
 
-// Nothing more, or the error of a check.
+// Whether a month is past its check, or its error.
 pub enum MonthCheck {
     Ok,
     Err(CalendarError),
@@ -126,7 +126,7 @@ fn leaves_years(start_year: u32, end_year: u32) -> bool
     (start_year < MIN_YEAR) | (MAX_YEAR < end_year)
 }
 
-// [count]: errors 5 for the start, 5 for the end, and 1 with the start. Callers have checked the market, or the markets, before.
+// [count]: errors 5 for the start, 5 for the end, and 1 with the start. A market is checked before.
 pub fn checked_range(start: Date, end: Date) -> RangeResult
     ensures { λ r. ⌜ r ≡ checkedRange start end ⌝ }
 {
@@ -150,7 +150,7 @@ pub fn checked_range(start: Date, end: Date) -> RangeResult
     }
 }
 
-// Error 9, or how many entries are written: all that are needed, into a buffer with room for so many.
+// Error 9, or how many entries are written.
 pub fn checked_room(needed: usize, room: usize) -> CountResult
     requires { ⌜ needed < 2 ^ 32 ⌝ }
     ensures { λ r. ⌜ r ≡ checkedRoom needed room ⌝ }

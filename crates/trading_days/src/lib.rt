@@ -29,8 +29,8 @@ pub fn count(market: u32, first: u32, last: u32) -> u32
     count
 }
 
-// [month-list]: how many days of the month trade; so many of the first bytes are then these days, by their numbers in the month. Each
-// day is asked for once.
+// [month-list]: how many days of the month trade. The first so many bytes are then these days, by their numbers in the month. Each day
+// is asked for once.
 pub fn month_days(market: u32, year: u32, month: u32, days: &mut [u8]) -> usize
     requires { ⌜ (isDate year month 1 ≡ true) × (length (now days) ≡ 31) ⌝ }
     ensures { λ r. ⌜ (take r (now (days .exit)) ≡ monthList market year month) × (r ≤ 31) ⌝ }
