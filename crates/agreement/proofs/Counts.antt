@@ -10,8 +10,8 @@ use Rattle.gregorian.specs.Calendar.{isDateOf, number, dayBefore}
 use Rattle.gregorian.proofs.Laws.{number-of-date, date-of-is}
 use Rattle.markets.specs.Markets.{isMarket, isTradingDay}
 use Rattle.markets.specs.Years.{minDay, maxDay}
-use Rattle.ranges.specs.Ranges.{countTradingDays, parts, sumOf}
-use Rattle.ranges.specs.Agreement.{Splits, countOf}
+use Rattle.ranges.specs.Ranges.{countTradingDays, sumOf}
+use Rattle.ranges.specs.Agreement.{parts, Splits, countOf}
 use Rattle.ranges.proofs.Counts.{count-none, splits-order}
 use Rattle.longest_run.proofs.Markets.{bounds}
 use Rattle.range_calls.proofs.CountLaws.{count-of-dates}

@@ -17,8 +17,8 @@ use Rattle.utils.proofs.WeekdayLaws.{month-end}
 use Rattle.markets.specs.Markets.{isMarket, isTradingDay}
 use Rattle.markets.specs.Years.{minYear, maxYear, isSupported}
 use Rattle.markets.proofs.YearLaws.{supported-years}
-use Rattle.ranges.specs.Ranges.{Every, DateRange, joined, limitTo}
-use Rattle.ranges.specs.Agreement.{Tile, listOf}
+use Rattle.ranges.specs.Ranges.{Every, joined}
+use Rattle.ranges.specs.Agreement.{DateRange, limitTo, Tile, listOf}
 use Rattle.ranges.proofs.Lists.{order, filter-map}
 use Rattle.ranges.proofs.Items.{every-each, every-map, every-trading-day, map-same, filter-same}
 use Rattle.error.specs.declared.CountResult.{CountResult}

@@ -8,23 +8,25 @@ use lib.Dec.{leb}
 use lib.ListN.{length, length-map}
 use native.Mathlib.Omega.{arith}
 use Rattle.gregorian.specs.declared.Date.{Date}
-use Rattle.gregorian.specs.Calendar.{monthLength, dayNumber, IsDate, isDateOf, number, dayAfter, dateOf, dayBefore}
+use Rattle.gregorian.specs.Calendar.{monthLength, dayNumber, isDateOf, number, dayAfter, dateOf, dayBefore}
+use Rattle.gregorian.specs.Inner.{IsDate}
 use Rattle.gregorian.proofs.Laws.{is-date, date-by, month-low, date-of-number, number-range}
 use Rattle.markets.specs.Markets.{isMarket, isTradingDay}
 use Rattle.markets.specs.Years.{minDay, maxDay, firstDayOf, lastDayOf}
 use Rattle.markets.proofs.YearLaws.{supported-years}
 use Rattle.ranges.specs.Ranges.{Every, tradingDays, countTradingDays, joined}
 use Rattle.ranges.specs.Steps.{NextCall, PreviousCall}
-use Rattle.ranges.specs.Agreement.{Traversal, Agreement, Tile, listOf}
+use Rattle.ranges.specs.Agreement.{Agreement, Tile, listOf}
+use Rattle.ranges.specs.Traversals.{Traversal}
 use Rattle.ranges.proofs.Lists.{map-reverse}
 use Rattle.ranges.proofs.Items.{every-each, every-trading-day}
 use Rattle.ranges.proofs.Months.{joined-days}
 use Rattle.longest_run.specs.MarketAgreement.{longestRun}
 use Rattle.longest_run.proofs.Markets.{bounds, markets-agree}
 use Rattle.answers.specs.Expected.{counted}
-use Rattle.agreement.specs.CallsAgree.{IsRange, tradingDates, Next, Previous, Month, monthNumber, monthsFrom, monthsOf, limitToRange, MonthLists, SplitDates, PartCounts, CallsAgree, AllCallsAgree}
+use Rattle.agreement.specs.CallsAgree.{IsRange, tradingDates, nextCall, previousCall, Next, Previous, Month, monthNumber, monthsFrom, monthsOf, limitToRange, MonthLists, SplitDates, PartCounts, CallsAgree, AllCallsAgree}
 use Rattle.agreement.proofs.Dates.{number-from, number-to, ascending, months-ordered}
-use Rattle.agreement.proofs.Traversals.{IsDay, as-dates, outside-as-dates, next-answer, previous-answer}
+use Rattle.agreement.proofs.Traversals.{IsDay, as-dates, outside-as-dates, next-answer, previous-answer, only-list, returned}
 use Rattle.agreement.proofs.Months.{MonthsInYears, monthRange, listed, later-in-month, number-from-day, tile, all-read, joined-dates, are-dates, limited-dates}
 use Rattle.agreement.proofs.Counts.{splits-of, count-answers, empty-part, part-counts}
 
@@ -141,7 +143,9 @@ module _ (market : ℕ) (first last : Date) (known : isMarket market ≡ true) (
       record {
         ascending = ascending trades (suc b - a) a (omega (arith, bounds, first-low));
         forward = on-forward;
+        forward-only = only-list (Next market) (nextCall market) _ _ _ (λ s t c. returned market _ (nextCall market) s t _ _ c) on-forward;
         backward = on-backward;
+        backward-only = only-list (Previous market) (previousCall market) _ _ _ (λ s t c. returned market _ (previousCall market) s t _ _ c) on-backward;
         months = on-months;
         count = count-answers market known first last (range .first-date) (range .last-date) first-low last-high ∙ ap counted on-length;
         parts = on-parts;

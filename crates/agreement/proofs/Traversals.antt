@@ -11,22 +11,22 @@ use Rattle.gregorian.specs.Calendar.{number, dateOf}
 use Rattle.gregorian.proofs.Laws.{number-of-date, date-of-is}
 use Rattle.utils.specs.declared.OptionalDay.{OptionalDay}
 use Rattle.utils.specs.declared.OptionalDay.the-variants.{Day}
-use Rattle.utils.specs.Weekday.{InYears}
+use Rattle.utils.specs.Inner.{InYears}
 use Rattle.markets.specs.Markets.{isMarket, isTradingDay}
 use Rattle.markets.specs.Years.{isSupported, firstDayOf, lastDayOf}
 use Rattle.markets.proofs.YearLaws.{searched-days}
 use Rattle.ranges.specs.Ranges.{daysBetween, nextTradingDay, previousTradingDay}
-use Rattle.ranges.specs.Steps.{NonTradingBetween, NextCall, PreviousCall}
-use Rattle.ranges.specs.Agreement.{TraversalTo, EndsOutside, Traversal}
+use Rattle.ranges.specs.Steps.{NextCall, PreviousCall}
+use Rattle.ranges.specs.Traversals.{NonTradingBetween, TraversalTo, EndsOutside, Traversal}
 use Rattle.ranges.proofs.Lists.{between-length}
 use Rattle.ranges.proofs.StepLaws.{next-in-years, previous-in-years}
-use Rattle.ranges.proofs.Traversals.{traversal-map, outside-map, traversal-unique, outside-ends}
+use Rattle.ranges.proofs.Traversals.{traversal-map, outside-map, traversal-weaker, traversal-unique, outside-ends}
 use Rattle.range_calls.specs.RangeCalls.{distanceOf, tradingDay, tradingDayResult, neighbourResult}
 use Rattle.range_calls.proofs.RangeLaws.{to-later, to-earlier, neighbour-of-date}
 use Rattle.answers.specs.declared.neighbours.TradingDayAnswer.{TradingDayAnswer}
 use Rattle.answers.specs.Answers.{flagOf, tradingDayAnswer}
 use Rattle.answers.specs.Expected.{foundDay}
-use Rattle.agreement.specs.CallsAgree.{markOf, nextCall, previousCall, NeighbourAnswer, Next, Previous}
+use Rattle.agreement.specs.CallsAgree.{markOf, nextCall, previousCall, NeighbourAnswer, Returns, OnlyList}
 
 -- a day of years 1 to 9999
 abbrev pub IsDay : ℕ → Type 0
@@ -98,19 +98,15 @@ module _ (market : ℕ) (known : isMarket market ≡ true) (most : ℕ) where
       let down = c .2 .ordered in
       (i, answered (previousTradingDay (isTradingDay market) (firstDayOf market)) n m m n k i (i .0) (c .0) (c .1) (sym (to-earlier n m (n - m) (omega arith) refl)) (mark-is (dateOf n) (dateOf m) .1) (c .2))
 
--- A call has one answer, and so the traversal lists no other dates.
-one-date : (market most : ℕ) (r : TradingDayAnswer) (s t earlier later earlier′ later′ : Date) → NeighbourAnswer market most r s earlier later → NeighbourAnswer market most r t earlier′ later′ → s ≡ t
-one-date market most r s t earlier later earlier′ later′ c d = ap (λ (x : TradingDayAnswer). x .date) (sym (c .no-error) ∙ d .no-error)
+-- A call returns one date, and so whoever follows the dates lists those of the traversal.
+pub only-list : (Call : Date → Date → Type 0) (call : Date → TradingDayAnswer) (inside : Date → Bool) (start : Date) (list : List Date)
+    → ((s t : Date) → Call s t → Returns call s t) → Traversal Call inside start list → OnlyList call inside start list
+only-list Call call inside start list returns t l u =
+    traversal-unique (Returns call) inside one _ (outside-ends (Returns call) inside one) start l list u (traversal-weaker Call (Returns call) inside returns start list t)
+  where
+    one : (s t u : Date) → Returns call s t → Returns call s u → t ≡ u
+    one s t u c d = sym (c .1) ∙ d .1
 
-module _ (market : ℕ) (inside : Date → Bool) where
-  one-next : (n m k : Date) → Next market n m → Next market n k → m ≡ k
-  one-next n m k c d = one-date market _ _ m k _ _ _ _ c d
-
-  one-previous : (n m k : Date) → Previous market n m → Previous market n k → m ≡ k
-  one-previous n m k c d = one-date market _ _ m k _ _ _ _ c d
-
-  pub forward-unique : (n : Date) (l r : List Date) → Traversal (Next market) inside n l → Traversal (Next market) inside n r → l ≡ r
-  forward-unique = traversal-unique (Next market) inside one-next _ (outside-ends (Next market) inside one-next)
-
-  pub backward-unique : (n : Date) (l r : List Date) → Traversal (Previous market) inside n l → Traversal (Previous market) inside n r → l ≡ r
-  backward-unique = traversal-unique (Previous market) inside one-previous _ (outside-ends (Previous market) inside one-previous)
+-- What is known of a call includes what it returns.
+pub returned : (market most : ℕ) (call : Date → TradingDayAnswer) (given answer earlier later : Date) → NeighbourAnswer market most (call given) answer earlier later → Returns call given answer
+returned market most call given answer earlier later c = (ap (λ (r : TradingDayAnswer). r .error) (c .no-error), ap (λ (r : TradingDayAnswer). r .date) (c .no-error))

@@ -2,7 +2,7 @@
 -- the answers are the structs that the exported calls return, by the definitions that their contracts cite. Assumes nothing.
 use Prim.Native.Nat.{ℕ, zero, suc, _+_, _-_, _*_, _≤_, _<_}
 use mathlib.Core.Path.{_≡_}
-use mathlib.Core.Bool.{true, cond, _&&_}
+use mathlib.Core.Bool.{Bool, true, cond, _&&_}
 use mathlib.Core.Logic.{_⊎_}
 use mathlib.Core.List.{List, [], _∷_, map, reverse}
 use lib.Dec.{leb}
@@ -13,8 +13,7 @@ use Rattle.utils.specs.Weekday.{nextMonth, nextYear}
 use Rattle.markets.specs.Markets.{isMarket, isTradingDay}
 use Rattle.markets.specs.Years.{isSupported}
 use Rattle.ranges.specs.Ranges.{daysBetween, filter, Every, tradingDays, sumOf, joined}
-use Rattle.ranges.specs.Steps.{NonTradingBetween}
-use Rattle.ranges.specs.Agreement.{Traversal}
+use Rattle.ranges.specs.Traversals.{NonTradingBetween, Traversal}
 use Rattle.range_calls.specs.RangeCalls.{nextTradingDayResult, previousTradingDayResult, tradingDaysInMonthResult, tradingDaysInMonthBuffer, countTradingDaysResult}
 use Rattle.answers.specs.declared.neighbours.TradingDayAnswer.{TradingDayAnswer}
 use Rattle.answers.specs.declared.counts.CountAnswer.{CountAnswer}
@@ -74,6 +73,15 @@ Next market given answer = NeighbourAnswer market mostBetween (nextCall market g
 
 abbrev pub Previous : ℕ → Date → Date → Type 0
 Previous market given answer = NeighbourAnswer market mostBetween (previousCall market given) answer answer given
+
+-- What a host sees of such a call on the date given: no error, and this answer.
+abbrev pub Returns : (Date → TradingDayAnswer) → Date → Date → Type 0
+Returns call given answer = (call given .error ≡ 0) × (call given .date ≡ answer)
+
+-- No other list: what comes of calling on each answer in turn, by error and date alone, is this list. That there is such a list is for
+-- another part to say.
+abbrev pub OnlyList : (Date → TradingDayAnswer) → (Date → Bool) → Date → List Date → Type 0
+OnlyList call inside start list = (l : List Date) → Traversal (Returns call) inside start l → l ≡ list
 
 -- ---- months
 
@@ -160,10 +168,12 @@ PartCounts market first splits last =
 pub record CallsAgree (market : ℕ) (first last : Date) : Type 0 where
   -- [agreement-range]
   pub ascending : Ascending (tradingDates market first last)
-  -- [agreement-forward]: next on the day before the range, then on each answer, until one is past the range
+  -- [agreement-forward]: next on the day before the range, then on each answer, until one is past the range; and there is no other list
   pub forward : Traversal (Next market) (λ t. leb (number t) (number last)) (dayBefore first) (tradingDates market first last)
-  -- [agreement-backward]: previous on the day after the range, then on each answer, until one is before the range
+  pub forward-only : OnlyList (nextCall market) (λ t. leb (number t) (number last)) (dayBefore first) (tradingDates market first last)
+  -- [agreement-backward]: previous on the day after the range, then on each answer, until one is before the range; and no other list
   pub backward : Traversal (Previous market) (λ t. leb (number first) (number t)) (dayAfter last) (reverse (tradingDates market first last))
+  pub backward-only : OnlyList (previousCall market) (λ t. leb (number first) (number t)) (dayAfter last) (reverse (tradingDates market first last))
   -- [agreement-months]: whatever the months' buffers are
   pub months : (buffer : Month → List ℕ) → MonthLists market first last buffer
   -- [agreement-count]

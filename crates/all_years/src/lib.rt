@@ -1,7 +1,7 @@
 // Trading days and holidays in any of years 1 to 9999, as a C function. It is no part of the library, whose calls answer for 2020
 // to 2030. The comparison with the Rust, whose markets answer in every year, and the stored holidays of other years ask it.
 ghost use mathlib.Core.Path.{_≡_};
-ghost use Rattle.utils.specs.Weekday.{InYears};
+ghost use Rattle.utils.specs.Inner.{InYears};
 ghost use Rattle.all_years.specs.Answers.{knownDay, dayAnswer};
 use utils::OptionalDay;
 

@@ -6,7 +6,7 @@ use Rattle.utils.specs.declared.OptionalDay.{OptionalDay}
 use Rattle.utils.specs.declared.OptionalDay.the-variants.{Day, None}
 use Rattle.schedule.specs.declared.SessionResult.{SessionResult}
 use Rattle.schedule.specs.declared.HoursResult.{HoursResult}
-use Rattle.schedule.specs.Schedule.{session}
+use Rattle.schedule.specs.Schedule.{noSession}
 use Rattle.error.specs.declared.BoolResult.{BoolResult}
 use Rattle.error.specs.declared.CountResult.{CountResult}
 use Rattle.error.specs.declared.TimeResult.{TimeResult}
@@ -55,7 +55,7 @@ timeAnswer (TimeResult.Err e) = record { error = errorNumber e; seconds = 0 }
 
 unfoldable pub sessionAnswer : SessionResult → SessionAnswer
 sessionAnswer (SessionResult.Ok s) = record { error = 0; session = s }
-sessionAnswer (SessionResult.Err e) = record { error = errorNumber e; session = session 0 0 }
+sessionAnswer (SessionResult.Err e) = record { error = errorNumber e; session = noSession }
 
 unfoldable pub hoursAnswer : HoursResult → HoursAnswer
 hoursAnswer (HoursResult.Ok hours) = record { error = 0; hours = hoursOf hours }

@@ -7,7 +7,7 @@ use Rattle.schedule.specs.declared.Session.{Session}
 use Rattle.schedule.specs.declared.OptionalSession.{OptionalSession}
 use Rattle.schedule.specs.declared.OptionalTime.{OptionalTime}
 use Rattle.schedule.specs.declared.TradingHours.{TradingHours}
-use Rattle.schedule.specs.Schedule.{session}
+use Rattle.schedule.specs.Schedule.{noSession}
 use Rattle.answers.specs.declared.records.Hours.{Hours}
 
 -- A part is absent if its has_ field is 0, whatever its numbers are.
@@ -35,7 +35,7 @@ hasSession OptionalSession.None = 0
 
 abbrev pub sessionOf : OptionalSession → Session
 sessionOf (OptionalSession.Some s) = s
-sessionOf OptionalSession.None = session 0 0
+sessionOf OptionalSession.None = noSession
 
 abbrev pub hasTime : OptionalTime → ℕ
 hasTime (OptionalTime.Some time) = 1
@@ -65,10 +65,10 @@ noHours =
     record {
       date = noDate;
       «has_pre_market» = 0;
-      «pre_market» = session 0 0;
-      regular = session 0 0;
+      «pre_market» = noSession;
+      regular = noSession;
       «has_after_hours» = 0;
-      «after_hours» = session 0 0;
+      «after_hours» = noSession;
       «has_early_close» = 0;
       «early_close» = 0;
     }

@@ -1,4 +1,4 @@
-// The answer of the month list and of the count. Labels in brackets are those of docs/SCOPE.md.
+// The answer of the month list and of the count.
 ghost use mathlib.Core.Path.{_≡_};
 ghost use Rattle.answers.specs.Answers.{countAnswer};
 use error::CountResult;

@@ -1,5 +1,5 @@
 // The C structs of the answers, and how each result becomes one; the nth weekday and Easter, whose dates are not made from a day
-// number. Labels in brackets are those of docs/SCOPE.md.
+// number.
 pub mod counts;
 pub mod neighbours;
 pub mod records;
@@ -7,7 +7,8 @@ pub mod trading_hours;
 
 ghost use mathlib.Core.Path.{_≡_};
 ghost use Prim.Native.Nat.{_+_, _-_, _≤_};
-ghost use Rattle.utils.specs.Weekday.{InYears, mapDay, nthWeekdayOfMonth};
+ghost use Rattle.utils.specs.Weekday.{mapDay, nthWeekdayOfMonth};
+ghost use Rattle.utils.specs.Inner.{InYears};
 ghost use Rattle.utils.specs.Easter.{calculateEaster};
 ghost use Rattle.answers.specs.Answers.{optionalDate, flagOf, boolAnswer};
 use error::BoolResult;

@@ -1,4 +1,4 @@
-// The answer of next and previous. Labels in brackets are those of docs/SCOPE.md.
+// The answer of next and previous.
 ghost use mathlib.Core.Path.{_≡_};
 ghost use Rattle.answers.specs.Answers.{tradingDayAnswer};
 use crate::flag;

@@ -1,5 +1,4 @@
-// The hours record of the header, tc_hours, and what it is inside: there a part that may be absent is an enum. Labels in brackets
-// are those of docs/SCOPE.md.
+// The hours record of the header, tc_hours, and what it is inside: there a part that may be absent is an enum.
 ghost use mathlib.Core.Path.{_≡_};
 ghost use Rattle.answers.specs.Records.{optionalSession, optionalTime, tradingHoursOf};
 ghost use Rattle.answers.specs.Records.{hasSession, sessionOf, hasTime, timeOf, hoursOf};

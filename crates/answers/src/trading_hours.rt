@@ -1,4 +1,4 @@
-// The answers about hours. Labels in brackets are those of docs/SCOPE.md.
+// The answers about hours.
 ghost use mathlib.Core.Path.{_≡_};
 ghost use Rattle.answers.specs.Answers.{timeAnswer, sessionAnswer, hoursAnswer};
 use crate::records::Hours;

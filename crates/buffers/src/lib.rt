@@ -1,4 +1,4 @@
-// Bytes written to the start of a buffer. Labels in brackets are those of docs/SCOPE.md.
+// Bytes written to the start of a buffer.
 ghost use mathlib.Core.Path.{_≡_};
 ghost use Prim.Native.Nat.{_≤_};
 ghost use lib.ListN.{length};

@@ -1,5 +1,5 @@
 // The calls of src/calendar.rs of the Rust on a market and a date, on numbers: the code, and year, month and day. Those about ranges
-// of days are in the crate range_calls. Labels in brackets are those of docs/SCOPE.md.
+// of days are in the crate range_calls.
 ghost use mathlib.Core.Path.{_≡_};
 ghost use Rattle.calendar.specs.Calls.{isTradingDayResult, isHolidayResult, tradingHoursResult, isOpenResult};
 use checks::DayResult;

@@ -1,5 +1,4 @@
-// The checks of the numbers that calls are given, each one ladder of tests: the first error of [errors] that applies decides. Labels
-// in brackets are those of docs/SCOPE.md.
+// The checks of the numbers that calls are given, each one ladder of tests: the first error of [errors] that applies decides.
 ghost use mathlib.Core.Path.{_≡_};
 ghost use Prim.Native.Nat.{_<_, _^_};
 ghost use Rattle.checks.specs.Checks.{isTime, checkedDay, supportedDay, isMonth, monthErrorDate, checkedMonth};

@@ -1,4 +1,4 @@
--- Easter by the Anonymous Gregorian algorithm is Easter by the computus, in years 1 to 9999.
+-- The Easter of the Anonymous Gregorian algorithm is that of the computus, in years 1 to 9999.
 -- Assumes nothing.
 use Prim.Native.Nat.{ℕ, _+_, _-_, _%_, _≤_}
 use mathlib.Core.Path.{_≡_, refl, ap, sym, _∙_}
@@ -6,15 +6,17 @@ use mathlib.Core.Bool.{Bool, true}
 use lib.Dec.{eqb, lit≤}
 use native.Mathlib.Omega.{arith}
 use borrow.Author.Tests.{eqb-true}
-use Rattle.gregorian.specs.Calendar.{leap, leapDay, monthLength, total, dayNumber, lastYear, weekdayOf}
+use Rattle.gregorian.specs.Calendar.{leap, leapDay, monthLength, total, dayNumber, lastYear, dateOf, sunday, weekdayOf}
+use Rattle.gregorian.proofs.Laws.{number-of-date, date-of-is}
 use Rattle.gregorian.proofs.Tests.{every, every-at}
 use Rattle.gregorian.proofs.Years.{years, years-is}
 use Rattle.utils.specs.declared.OptionalDay.the-variants.{Day}
 use Rattle.utils.specs.Weekday.{firstFrom}
-use Rattle.utils.specs.Easter.{moonDays, easter, calculateEaster}
+use Rattle.utils.specs.Easter.{moonDays, easter}
 use Rattle.utils.proofs.WeekdayLaws.{first-is}
-use Rattle.utils.proofs.EasterLaws.{daysAfter, easterDays, easter-days, easter-range, easter-found}
-use Rattle.computus.specs.Computus.{goldenNumber, century, solarCorrection, lunarCorrection, meanEpact, epact, fullMoon, computus, EasterSunday}
+use Rattle.utils.proofs.EasterLaws.{daysAfter, easterDays, easter-days, easter-range, easter-day, easter-found}
+use Rattle.answers.specs.Answers.{optionalDate}
+use Rattle.computus.specs.Computus.{goldenNumber, century, solarCorrection, lunarCorrection, meanEpact, epact, fullMoon, computus, EasterByComputus}
 
 march-22 : (y : ℕ) → dayNumber y 3 22 ≡ years (y - 1) + (81 + leapDay y)
 unfolding dayNumber total monthLength
@@ -46,17 +48,19 @@ easter-computus y l h =
     let e = ap (λ (n : ℕ). p + (13 - (n + p + 6) % 7) % 7) (march-22 y) in
     easter-days y ∙ sunday-after (dayNumber y 3 22) p (easterDays y) (t ∙ sym e) ∙ ap (λ (s : ℕ). s + (6 + 7 - (s + 6) % 7) % 7) (sym (moon-next y))
 
-pub easter-sunday : (y : ℕ) → 1 ≤ y → y ≤ lastYear → EasterSunday y (easter y)
-unfolding computus
-easter-sunday y l h =
+pub easter-by-computus : EasterByComputus
+unfolding computus optionalDate
+easter-by-computus y l h =
     let e = easter-computus y l h in
+    let r = easter-range y in
+    let d = easter-day y (easter y) (easter-found y l h) in
+    let n = number-of-date (computus y) (omega (arith, d, e)) in
     record {
-      sunday = ap weekdayOf e ∙ first-is (fullMoon y + 1) 6 (lit≤ tt);
-      from-22-march = easter-range y .0;
-      to-25-april = easter-range y .1;
-      by-computus = e;
+      easter = dateOf (computus y);
+      returned = ap optionalDate (easter-found y l h ∙ ap Day e);
+      is-date = date-of-is (computus y) (omega (arith, d, e)) (omega (arith, d, e));
+      by-computus = n;
+      on-sunday = ap weekdayOf n ∙ first-is (fullMoon y + 1) sunday (lit≤ tt);
+      from-22-march = omega (arith, r, e, n);
+      to-25-april = omega (arith, r, e, n);
     }
-
--- calculate_easter answers the Easter of the computus.
-pub calculate-easter : (y : ℕ) → 1 ≤ y → y ≤ lastYear → calculateEaster y ≡ Day (computus y)
-calculate-easter y l h = easter-found y l h ∙ ap Day (easter-computus y l h)

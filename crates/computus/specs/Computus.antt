@@ -1,12 +1,15 @@
 -- Easter by the Gregorian computus, from the golden number and the epact to the full moon and the Sunday after it, and not by the
--- letters of src/utils/easter.rs: docs/SCOPE.md [authority]. proofs/Agreement.antt shows that the two agree in years 1 to 9999.
--- Assumes nothing.
+-- letters of src/utils/easter.rs, and the claim that the two agree: docs/SCOPE.md [authority]. Assumes nothing.
 use Prim.Native.Nat.{ℕ, _+_, _-_, _*_, _/_, _%_, _≤_}
 use mathlib.Core.Path.{_≡_}
-use mathlib.Core.Bool.{cond, _&&_}
+use mathlib.Core.Bool.{true, cond, _&&_}
 use lib.Dec.{eqb, ltb}
-use Rattle.gregorian.specs.Calendar.{dayNumber, weekdayOf}
+use Rattle.gregorian.specs.declared.Date.{Date}
+use Rattle.gregorian.specs.Calendar.{dayNumber, lastYear, isDateOf, number, sunday, weekdayOf}
 use Rattle.utils.specs.Weekday.{firstFrom}
+use Rattle.utils.specs.Easter.{calculateEaster}
+use Rattle.answers.specs.Answers.{optionalDate}
+use Rattle.answers.specs.Expected.{foundDate}
 
 -- the year's place in the 19-year cycle of the moon, 1 to 19
 unfoldable pub goldenNumber : ℕ → ℕ
@@ -35,17 +38,25 @@ epact y =
     let e = meanEpact y in
     cond (eqb e 24) 25 (cond (eqb e 25 && ltb 11 (goldenNumber y)) 26 e)
 
--- The full moon on or after 21 March: on 21 March where the epact is 23, and a day earlier for each day more.
+-- The full moon on or after 21 March: on 21 March where the epact is 23, and a day earlier for each day more; and where that is before
+-- 21 March, 30 days later.
 unfoldable pub fullMoon : ℕ → ℕ
 fullMoon y = dayNumber y 3 21 + (53 - epact y) % 30
 
 -- Easter is the first Sunday after that full moon.
 unfoldable pub computus : ℕ → ℕ
-computus y = firstFrom (fullMoon y + 1) 6
+computus y = firstFrom (fullMoon y + 1) sunday
 
--- What the day n is if it is Easter Sunday of year y.
-pub record EasterSunday (y n : ℕ) : Type 0 where
-  pub sunday : weekdayOf n ≡ 6
-  pub from-22-march : dayNumber y 3 22 ≤ n
-  pub to-25-april : n ≤ dayNumber y 4 25
-  pub by-computus : n ≡ computus y
+-- The Easter call of year y returns a date, that of the computus: a Sunday from 22 March to 25 April.
+pub record EasterOfYear (y : ℕ) : Type 0 where
+  pub easter : Date
+  pub returned : optionalDate (calculateEaster y) ≡ foundDate easter
+  pub is-date : isDateOf easter ≡ true
+  pub by-computus : number easter ≡ computus y
+  pub on-sunday : weekdayOf (number easter) ≡ sunday
+  pub from-22-march : dayNumber y 3 22 ≤ number easter
+  pub to-25-april : number easter ≤ dayNumber y 4 25
+
+-- [authority], the claim: so it is in every year 1 to 9999.
+abbrev pub EasterByComputus : Type 0
+EasterByComputus = (y : ℕ) → 1 ≤ y → y ≤ lastYear → EasterOfYear y

@@ -1,1 +1,1 @@
-// No code: the definition of Easter by the computus, and the theorem that `utils` gives it.
+// No code: the definition of Easter by the computus, and the theorem that the Easter call returns it.

@@ -18,8 +18,8 @@ use Rattle.utils.specs.Weekday.{mapDay, nthWeekdayOfMonth, lastWeekdayOfMonth}
 use Rattle.utils.proofs.WeekdayLaws.{nth-weekday, last-weekday}
 use Rattle.utils.specs.Easter.{easter, calculateEaster}
 use Rattle.utils.proofs.EasterLaws.{easter-range, easter-found}
-use Rattle.days.specs.Days.{contains, insert, insertIf, insertDay, isDay, isBetween, isAroundEaster, matchWeekend}
-use Rattle.days.specs.Requires.{everyYearHas}
+use Rattle.days.specs.Days.{contains, insert, insertIf, insertDay, isDay, matchWeekend}
+use Rattle.days.specs.Inner.{isBetween, isAroundEaster, everyYearHas}
 
 pub or-assoc : (a b c : Bool) → (a || (b || c)) ≡ (a || b || c)
 or-assoc true b c = refl

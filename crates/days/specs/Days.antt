@@ -1,10 +1,10 @@
 -- Lists of days in the place of the Rust's HashSet<NaiveDate>, and the move that most markets share: docs/SCOPE.md
 -- [weekend-moves]. A day is its day number. Assumes nothing.
 use Prim.Native.Nat.{ℕ, _+_}
-use mathlib.Core.Bool.{Bool, false, cond, _&&_, _||_}
+use mathlib.Core.Bool.{Bool, false, cond, _||_}
 use mathlib.Core.List.{List, [], _∷_, _++_}
-use lib.Dec.{leb, eqb}
-use Rattle.gregorian.specs.Calendar.{saturday, sunday, dayNumber, weekdayOf}
+use lib.Dec.{eqb}
+use Rattle.gregorian.specs.Calendar.{saturday, sunday, weekdayOf}
 use Rattle.utils.specs.declared.OptionalDay.{OptionalDay}
 use Rattle.utils.specs.declared.OptionalDay.the-variants.{Day, None}
 
@@ -30,14 +30,6 @@ insertDay holidays None = holidays
 abbrev pub isDay : OptionalDay → ℕ → Bool
 isDay (Day d) n = eqb n d
 isDay None n = false
-
--- day n is one of these days, both included
-abbrev pub isBetween : ℕ → ℕ → ℕ → Bool
-isBetween first last n = leb first n && leb n last
-
--- day n is from 20 March to 26 April, as Good Friday and Easter Monday always are
-abbrev pub isAroundEaster : ℕ → ℕ → Bool
-isAroundEaster year n = isBetween (dayNumber year 3 20) (dayNumber year 4 26) n
 
 -- `match n.weekday() { Sat => s, Sun => t, _ => n }`
 unfoldable pub matchWeekend : ℕ → ℕ → ℕ → ℕ

@@ -1,13 +1,12 @@
-// Days that the rules of several markets share: a day of the year, one that moves to Monday, Good Friday. Labels in brackets are
-// those of docs/SCOPE.md.
+// Days that the rules of several markets share: a day of the year, one that moves to Monday, Good Friday.
 ghost use mathlib.Core.Path.{_≡_};
 ghost use mathlib.Core.Bool.{true};
 ghost use Prim.Native.Nat.{_≤_};
 ghost use lib.Dec.{eqb};
 ghost use Rattle.gregorian.specs.Calendar.{lastYear, lastDay, dayNumber};
 ghost use Rattle.utils.specs.Easter.{calculateGoodFriday};
-ghost use Rattle.days.specs.Days.{isDay, isBetween, isAroundEaster, adjustForWeekend};
-ghost use Rattle.days.specs.Requires.{everyYearHas};
+ghost use Rattle.days.specs.Days.{isDay, adjustForWeekend};
+ghost use Rattle.days.specs.Inner.{isBetween, isAroundEaster, everyYearHas};
 use gregorian::SATURDAY;
 use gregorian::SUNDAY;
 use utils::OptionalDay;

@@ -1,4 +1,4 @@
-// Numbers in decimal, as ASCII bytes. Labels in brackets are those of docs/SCOPE.md.
+// Numbers in decimal, as ASCII bytes.
 ghost use mathlib.Core.Path.{_≡_};
 ghost use Prim.Native.Nat.{_≤_};
 ghost use lib.ListN.{length};

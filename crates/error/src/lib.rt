@@ -1,4 +1,4 @@
-// The errors of the calls, as src/error.rs of the Rust. Labels in brackets are those of docs/SCOPE.md.
+// The errors of the calls, as src/error.rs of the Rust.
 ghost use mathlib.Core.Path.{_≡_};
 ghost use Rattle.error.specs.Errors.{onlyNumber, errorFields};
 use gregorian::Date;

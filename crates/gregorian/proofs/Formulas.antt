@@ -7,7 +7,8 @@ use lib.Dec.{lit≤}
 use lib.ListN.{List·getD-eq-default}
 use native.Mathlib.Omega.{arith}
 use native.Mathlib.Decide.{decLt}
-use Rattle.gregorian.specs.Calendar.{total, leap, leapDay, yearLength, monthLengths, monthLength, dayNumber, lastYear, lastDay, Exists, isDate, dateOf, date, Within}
+use Rattle.gregorian.specs.Calendar.{total, leap, leapDay, yearLength, monthLengths, monthLength, dayNumber, lastYear, lastDay, isDate, dateOf, date}
+use Rattle.gregorian.specs.Inner.{Exists, Within}
 use Rattle.gregorian.proofs.Total.{total-next, total-mono, place-eq, upto}
 use Rattle.gregorian.proofs.Years.{years, years-is}
 use Rattle.gregorian.proofs.Laws.{is-date, unique, date-exists, number-of-date, number-high, year-of-months, day-of-year}

@@ -9,7 +9,9 @@ use native.Mathlib.Omega.{arith}
 use native.Mathlib.Decide.{decLt}
 use borrow.Author.Tests.{ltb-true, ltb-false, leb-true, le-leb}
 use Rattle.gregorian.specs.declared.Date.{Date}
-use Rattle.gregorian.specs.Calendar.{total, yearLength, monthLength, dayNumber, lastYear, lastDay, Exists, IsDate, isDate, dayAfter, dateOf, date, number, dayBefore}
+use Rattle.gregorian.specs.Calendar.{leap, leapDay, total, yearLength, monthLength, dayNumber, lastYear, lastDay, isDate, isDateOf, dayAfter, dateOf, date, number, dayBefore}
+use Rattle.gregorian.specs.CalendarClaims.{DatesAreNumbered}
+use Rattle.gregorian.specs.Inner.{Exists, IsDate}
 use Rattle.gregorian.proofs.Total.{total-none, total-next, total-mono, place-lt, place-eq, upto}
 use Rattle.gregorian.proofs.Years.{years-is}
 use Rattle.gregorian.proofs.Tests.{and-left, and-right}
@@ -202,7 +204,7 @@ number-range y m d h =
     (number-low y m d (g .exists), number-high y m d (g .exists) (g .y-high))
 
 -- each number in range is that of a date
-pub date-of-is : (n : ℕ) → 1 ≤ n → n ≤ lastDay → isDate (dateOf n .year) (dateOf n .month) (dateOf n .day) ≡ true
+pub date-of-is : (n : ℕ) → 1 ≤ n → n ≤ lastDay → isDateOf (dateOf n) ≡ true
 date-of-is n l h =
     let e = number-of-date n l in
     let g = date-exists n l in
@@ -276,3 +278,14 @@ early-date y m d h l u =
     let g = is-date y m 1 h in
     let e = g .exists in
     date-by y m d (e .y-low, g .y-high) (e .m-low, e .m-high) (l, omega (arith, month-low y m (e .m-low) (e .m-high)))
+
+pub dates-are-numbered : DatesAreNumbered
+unfolding dayNumber total monthLength leapDay leap
+dates-are-numbered = record {
+  first = refl;
+  last = ap (λ (k : ℕ). k + 365) (years-is 9998);
+  in-range = λ t h. number-range (t .year) (t .month) (t .day) h;
+  next = λ t h. next-number t (is-date (t .year) (t .month) (t .day) h .exists);
+  date-of = λ t h. date-of-number t (is-date (t .year) (t .month) (t .day) h .exists);
+  number-of = λ n l h. (date-of-is n l h, number-of-date n l);
+}

@@ -1,7 +1,6 @@
 -- The Gregorian calendar from first principles, extended without end: docs/SCOPE.md [calendar], [date], [weekday-numbers].
 -- Assumes nothing.
-use Prim.Native.Nat.{ℕ, zero, suc, _+_, _-_, _%_, _≤_, _<_}
-use mathlib.Core.Path.{_≡_}
+use Prim.Native.Nat.{ℕ, zero, suc, _+_, _-_, _%_}
 use mathlib.Core.Bool.{Bool, cond, _&&_}
 use mathlib.Core.List.{List, [], _∷_}
 use lib.Dec.{ltb, leb, eqb}
@@ -46,19 +45,7 @@ firstDay = 1
 abbrev pub lastDay : ℕ
 lastDay = 3652059
 
--- day d of month m of year y exists, in any year from 1 on
-pub record Exists (y m d : ℕ) : Type 0 where
-  pub y-low : 1 ≤ y
-  pub m-low : 1 ≤ m
-  pub m-high : m ≤ 12
-  pub d-low : 1 ≤ d
-  pub d-high : d ≤ monthLength y m
-
--- What it takes for year, month and day to be a date of the calls; as facts, and as a test.
-pub record IsDate (y m d : ℕ) : Type 0 where
-  pub exists : Exists y m d
-  pub y-high : y ≤ lastYear
-
+-- [date]: what it takes for year, month and day to be a date of the calls
 unfoldable pub isDate : ℕ → ℕ → ℕ → Bool
 isDate y m d = leb 1 y && leb y lastYear && leb 1 m && leb m 12 && leb 1 d && leb d (monthLength y m)
 
@@ -111,24 +98,6 @@ saturday = 5
 abbrev pub sunday : ℕ
 sunday = 6
 
--- the weekday after w: 0 Monday to 6 Sunday, then Monday again
-unfoldable pub nextWeekday : ℕ → ℕ
-nextWeekday w = cond (eqb w 6) 0 (w + 1)
-
--- What it is to give each day number its weekday: 1 January 2001 is a Monday, and each next day has the next weekday.
-pub record Weekdays (f : ℕ → ℕ) : Type 0 where
-  pub range : (n : ℕ) → f n ≤ 6
-  pub monday : f (dayNumber 2001 1 1) ≡ 0
-  pub next : (n : ℕ) → f (n + 1) ≡ nextWeekday (f n)
-
--- The weekday of a day number. This is the one function of `Weekdays`: proofs/Weekdays.antt, `weekdays` and
--- `only-weekdays`.
+-- the weekday of a day number: CalendarClaims.antt says why
 unfoldable pub weekdayOf : ℕ → ℕ
 weekdayOf n = (n + 6) % 7
-
--- of parts of lengths f 1, f 2, .., f most, laid end to end, number k is the part that holds place n
-pub record Within (f : ℕ → ℕ) (most n k : ℕ) : Type 0 where
-  pub low : 1 ≤ k
-  pub high : k ≤ most
-  pub starts : total f (k - 1) < n
-  pub ends : n ≤ total f k

@@ -3,7 +3,8 @@
 ghost use mathlib.Core.Path.{_≡_};
 ghost use mathlib.Core.Bool.{true};
 ghost use Prim.Native.Nat.{_≤_};
-ghost use Rattle.gregorian.specs.Calendar.{leap, monthLength, yearLength, total, dayNumber, lastYear, lastDay, isDate, dateOf, weekdayOf, Within};
+ghost use Rattle.gregorian.specs.Calendar.{leap, monthLength, yearLength, total, dayNumber, lastYear, lastDay, isDate, dateOf, weekdayOf};
+ghost use Rattle.gregorian.specs.Inner.{Within};
 
 pub const LAST_YEAR: u32 = 9999;
 

@@ -2,7 +2,7 @@
 -- Assumes nothing.
 use mathlib.Core.Path.{_≡_, ap, _∙_}
 use mathlib.Core.Bool.{Bool, true, false, _&&_}
-use Rattle.gregorian.specs.Calendar.{isDate}
+use Rattle.gregorian.specs.Calendar.{isDateOf}
 use Rattle.error.specs.declared.CalendarError.{CalendarError}
 use Rattle.error.specs.declared.CalendarError.the-variants.{InvalidDate, TimeOutOfRange}
 use Rattle.schedule.specs.declared.TradingHours.{TradingHours}
@@ -11,7 +11,7 @@ use Rattle.hours.specs.Calls.{hasTimes, checkedHours, tryHours}
 
 module _ (hours : TradingHours) (timeInRange : Bool) where
   abbrev date-is : Bool
-  date-is = isDate (hours .date .year) (hours .date .month) (hours .date .day)
+  date-is = isDateOf (hours .date)
 
   pub error-5 : date-is ≡ false → HoursResult.Err InvalidDate ≡ checkedHours hours timeInRange
   unfolding checkedHours

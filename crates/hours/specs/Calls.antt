@@ -2,7 +2,7 @@
 use Prim.Native.Nat.{ℕ}
 use mathlib.Core.Bool.{Bool, true, cond, not, _&&_}
 use Rattle.gregorian.specs.declared.Date.{Date}
-use Rattle.gregorian.specs.Calendar.{isDate}
+use Rattle.gregorian.specs.Calendar.{isDateOf}
 use Rattle.error.specs.declared.BoolResult.{BoolResult}
 use Rattle.error.specs.declared.TimeResult.{TimeResult}
 use Rattle.error.specs.declared.CalendarError.{CalendarError}
@@ -16,11 +16,11 @@ use Rattle.schedule.specs.declared.HoursResult.{HoursResult}
 use Rattle.checks.specs.Checks.{isTime}
 use Rattle.schedule.specs.Schedule.{session, sessionNew, contains, hoursNew, withEarlyClose, isEarlyClose, marketClose, isOpenAt}
 
--- both numbers are times
+-- [time]: the times of a session are in range, also of one that [session-new] refuses
 abbrev pub isSession : Session → Bool
 isSession s = isTime (s .start) && isTime (s .end)
 
--- an absent part has none
+-- an absent part has no time
 abbrev pub isOptionalSession : OptionalSession → Bool
 isOptionalSession (OptionalSession.Some s) = isSession s
 isOptionalSession OptionalSession.None = true
@@ -29,7 +29,7 @@ abbrev pub isOptionalTime : OptionalTime → Bool
 isOptionalTime (OptionalTime.Some time) = isTime time
 isOptionalTime OptionalTime.None = true
 
--- each time that is present is one
+-- each time that is present is in range
 unfoldable pub hasTimes : TradingHours → Bool
 hasTimes hours =
     isOptionalSession (hours .«pre_market»)
@@ -41,7 +41,7 @@ hasTimes hours =
 -- that takes none.
 unfoldable pub checkedHours : TradingHours → Bool → HoursResult
 checkedHours hours timeInRange =
-    cond (not (isDate (hours .date .year) (hours .date .month) (hours .date .day))) (HoursResult.Err InvalidDate)
+    cond (not (isDateOf (hours .date))) (HoursResult.Err InvalidDate)
     (cond (not (hasTimes hours && timeInRange)) (HoursResult.Err TimeOutOfRange)
     (HoursResult.Ok hours))
 

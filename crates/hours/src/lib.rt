@@ -1,5 +1,4 @@
-// The calls of src/schedule.rs of the Rust, with the checks of the numbers that a session or an hours record holds. Labels in
-// brackets are those of docs/SCOPE.md.
+// The calls of src/schedule.rs of the Rust, with the checks of the numbers that a session or an hours record holds.
 ghost use mathlib.Core.Path.{_≡_};
 ghost use Rattle.hours.specs.Calls.{isSession, isOptionalSession, isOptionalTime, hasTimes, checkedHours};
 ghost use Rattle.hours.specs.Calls.{sessionNewResult, sessionContainsResult, tradingHoursNewResult, withEarlyCloseResult};

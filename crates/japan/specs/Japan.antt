@@ -1,6 +1,6 @@
 -- The holidays of TSE, as src/markets/japan/holidays.rs has them: docs/SCOPE.md [tse-holidays]. Assumes nothing.
 use Prim.Native.Nat.{ℕ, zero, suc, _+_, _-_}
-use mathlib.Core.Bool.{Bool, false, cond, _&&_, _||_}
+use mathlib.Core.Bool.{cond, _&&_}
 use mathlib.Core.List.{List, [], _∷_}
 use lib.Dec.{leb, eqb}
 use lib.ListN.{getD}
@@ -8,17 +8,18 @@ use Rattle.gregorian.specs.Calendar.{monday, tuesday, thursday, friday, sunday,
 use Rattle.utils.specs.declared.OptionalDay.{OptionalDay}
 use Rattle.utils.specs.declared.OptionalDay.the-variants.{Day, None}
 use Rattle.utils.specs.Weekday.{nthWeekdayOfMonth}
-use Rattle.days.specs.Days.{contains, insert, insertIf, insertDay, isDay}
+use Rattle.days.specs.Days.{contains, insert, insertIf, insertDay}
 
--- The loop of add_with_substitute: `while holidays.contains(&substitute) && attempts < 7 { substitute += 1; attempts += 1 }`.
--- `left` is 7 - attempts; None where no attempt is left, since only `if attempts < 7 { holidays.insert(substitute) }` follows.
+-- The first day from `substitute` on that is no holiday yet, of as many as are `left`; None if there is none. The Rust's loop,
+-- `while holidays.contains(&substitute) && attempts < 7 { substitute += 1; attempts += 1 }`, with 7 - attempts as `left`, and what
+-- follows it, `if attempts < 7 { holidays.insert(substitute) }`.
 unfoldable pub substituteDay : List ℕ → ℕ → ℕ → OptionalDay
 substituteDay holidays zero substitute = None
 substituteDay holidays (suc left) substitute =
     let later = substituteDay holidays left (substitute + 1) in
     cond (contains holidays substitute) later (Day substitute)
 
--- add_with_substitute
+-- add_with_substitute: the date and, if it is a Sunday, its substitute
 unfoldable pub addWithSubstitute : List ℕ → ℕ → List ℕ
 addWithSubstitute holidays date =
     let holidays = insert holidays date in
@@ -47,7 +48,7 @@ calculateVernalEquinox year = equinox vernalDays year 3
 abbrev pub calculateAutumnalEquinox : ℕ → OptionalDay
 calculateAutumnalEquinox year = equinox autumnalDays year 9
 
--- apply_golden_week_rules
+-- apply_golden_week_rules: 4 May, and 2 or 6 May by the weekdays of 3 to 5 May
 unfoldable pub applyGoldenWeekRules : ℕ → List ℕ → List ℕ
 applyGoldenWeekRules year holidays =
     let may3 = dayNumber year 5 3 in
@@ -84,53 +85,3 @@ getJapanHolidays year =
     let holidays = addWithSubstitute holidays (dayNumber year 11 3) in  -- Culture Day
     let holidays = addWithSubstitute holidays (dayNumber year 11 23) in  -- Labour Thanksgiving Day
     insert holidays (dayNumber year 12 31)  -- Market closes
-
--- The shorter account, docs/SCOPE.md [tse-substitute]: n is the date or, if that is a Sunday, the day after it.
-abbrev pub isWithSubstitute : ℕ → ℕ → Bool
-isWithSubstitute date n = eqb n date || eqb (weekdayOf date) sunday && eqb n (date + 1)
-
-abbrev pub isDayWithSubstitute : OptionalDay → ℕ → Bool
-isDayWithSubstitute (Day date) n = isWithSubstitute date n
-isDayWithSubstitute None n = false
-
--- [tse-golden-week]
-unfoldable pub isBridgeDay : ℕ → ℕ → Bool
-isBridgeDay year n =
-    eqb (weekdayOf (dayNumber year 5 3)) tuesday && eqb n (dayNumber year 5 2)
-    || eqb (weekdayOf (dayNumber year 5 5)) thursday && eqb n (dayNumber year 5 6)
-    || eqb (weekdayOf (dayNumber year 5 4)) sunday && eqb n (dayNumber year 5 6)
-
--- [tse-holidays] in the Rust's order, in three parts
-unfoldable pub isHolidayToMarch : ℕ → ℕ → Bool
-isHolidayToMarch year n =
-    isWithSubstitute (dayNumber year 1 1) n
-    || isWithSubstitute (dayNumber year 1 2) n
-    || isWithSubstitute (dayNumber year 1 3) n
-    || isDay (nthWeekdayOfMonth year 1 monday 2) n
-    || isWithSubstitute (dayNumber year 2 11) n
-    || isWithSubstitute (dayNumber year 2 23) n
-    || isDayWithSubstitute (calculateVernalEquinox year) n
-
-unfoldable pub isGoldenWeekHoliday : ℕ → ℕ → Bool
-isGoldenWeekHoliday year n =
-    isWithSubstitute (dayNumber year 4 29) n
-    || isWithSubstitute (dayNumber year 5 3) n
-    || isWithSubstitute (dayNumber year 5 5) n
-    || eqb n (dayNumber year 5 4)
-    || isBridgeDay year n
-
-unfoldable pub isHolidayFromJuly : ℕ → ℕ → Bool
-isHolidayFromJuly year n =
-    isDay (nthWeekdayOfMonth year 7 monday 3) n
-    || isWithSubstitute (dayNumber year 8 11) n
-    || isDay (nthWeekdayOfMonth year 9 monday 3) n
-    || isDayWithSubstitute (calculateAutumnalEquinox year) n
-    || isDay (nthWeekdayOfMonth year 10 monday 2) n
-    || isWithSubstitute (dayNumber year 11 3) n
-    || isWithSubstitute (dayNumber year 11 23) n
-    || eqb n (dayNumber year 12 31)
-
--- Whether n is a holiday of the year by the shorter account. It is `contains (getJapanHolidays year) n` in years 1 to 9999:
--- proofs/JapanLaws.antt, `japan-contains`. No exported contract rests on it.
-abbrev pub isJapanHoliday : ℕ → ℕ → Bool
-isJapanHoliday year n = isHolidayToMarch year n || isGoldenWeekHoliday year n || isHolidayFromJuly year n

@@ -1,1 +1,2 @@
 pub mod Japan
+pub mod Inner

@@ -14,7 +14,7 @@ use Rattle.utils.specs.Weekday.{firstFrom, targetDay, nthWeekdayOfMonth, firstO
 use Rattle.utils.specs.Easter.{moonDays, easter, calculateEaster, calculateGoodFriday, calculateEasterMonday}
 use Rattle.utils.proofs.WeekdayLaws.{nth-early}
 use Rattle.days.specs.Days.{contains, insert, insertIf, insertDay, matchWeekend}
-use Rattle.days.specs.Requires.{everyYearHas}
+use Rattle.days.specs.Inner.{everyYearHas}
 use Rattle.days.proofs.DayLaws.{every-year-date}
 use Rattle.japan.specs.Japan.{substituteDay, addWithSubstitute, addDayWithSubstitute, equinox, applyGoldenWeekRules, getJapanHolidays}
 use Rattle.markets.specs.Us.{getUsHolidays}

@@ -9,15 +9,16 @@ use Rattle.markets.specs.Years.{minYear, maxYear, minDay, maxDay, firstDayOf, l
 use Rattle.ranges.specs.Steps.{ShortRuns}
 use Rattle.ranges.specs.Agreement.{Agreement}
 
+-- [agreement-call]: at most ten
 abbrev pub longestRun : ℕ
 longestRun = 10
 
--- for each market, from the year before the supported ones to the year after
+-- the claim: no run of non-trading days is longer than that, for each market, from the year before the supported ones to the year after
 abbrev pub MarketRuns : Type 0
 MarketRuns =
     (market : ℕ) → isMarket market ≡ true → ShortRuns (isTradingDay market) longestRun (dayNumber (minYear - 1) 1 1) (dayNumber (suc maxYear) 12 31)
 
--- for each market and every two dates of the supported years in order
+-- the claim: the ways to the trading days agree, for each market and every two days of the supported years in order
 abbrev pub MarketsAgree : Type 0
 MarketsAgree =
     (market a b : ℕ) → isMarket market ≡ true → minDay ≤ a → a ≤ b → b ≤ maxDay

@@ -12,8 +12,10 @@ use Rattle.gregorian.proofs.Laws.{days-on}
 use Rattle.gregorian.proofs.Weekdays.{weekday-after}
 use Rattle.utils.specs.Weekday.{nthWeekdayOfMonth, lastWeekdayOfMonth}
 use Rattle.utils.specs.Easter.{calculateGoodFriday, calculateEasterMonday}
-use Rattle.days.specs.Days.{contains, insert, isDay, isBetween, adjustForWeekend}
-use Rattle.markets.specs.Uk.{addBoxingDay, isOneOfTwo, isChristmasOrBoxingDay, getUkHolidays}
+use Rattle.days.specs.Days.{contains, insert, isDay, adjustForWeekend}
+use Rattle.days.specs.Inner.{isBetween}
+use Rattle.markets.specs.Uk.{addBoxingDay, getUkHolidays}
+use Rattle.markets.specs.Inner.{isOneOfTwo, isChristmasOrBoxingDay}
 use Rattle.days.proofs.DayLaws.{or-assoc, contains-none, contains-insert, contains-day, not-between, on-key, on-weekday}
 
 -- The arms of the code, one of a weekday k, and the last.

@@ -18,7 +18,8 @@ familyDay year = cond (leb 2008 year) (nthWeekdayOfMonth year 2 monday 3) None
 abbrev pub victoriaDay : ℕ → ℕ
 victoriaDay year = lastUpTo monday (dayNumber year 5 24)
 
--- the `match` on the weekdays of Christmas Day and Boxing Day
+-- The `match` on the weekdays of Christmas Day and Boxing Day: two days later if Boxing Day is on a weekend. (_, Sat) and (_, Sun) never
+-- apply: the first two cases have every such year.
 unfoldable pub boxingDay : ℕ → ℕ
 boxingDay year =
     let christmas = dayNumber year 12 25 in
@@ -26,10 +27,11 @@ boxingDay year =
     cond (eqb (weekdayOf christmas) friday && eqb (weekdayOf boxing) saturday) (boxing + 2)  -- (Fri, Sat)
     (cond (eqb (weekdayOf christmas) saturday && eqb (weekdayOf boxing) sunday) (boxing + 2)  -- (Sat, Sun)
     (cond (eqb (weekdayOf boxing) saturday) (boxing + 2)  -- (_, Sat)
-    (cond (eqb (weekdayOf boxing) sunday) (boxing + 1) boxing)))  -- (_, Sun), and the rest
+    (cond (eqb (weekdayOf boxing) sunday) (boxing + 1) boxing)))  -- (_, Sun); and the rest, (Sun, Mon) too
 
 -- New Year's Day, Canada Day and Christmas Day, on Monday if on a weekend; Family Day (from 2008); Good Friday; Victoria Day;
--- Labour Day; Thanksgiving; Boxing Day, two days later if on a weekend. No Civic Holiday.
+-- Labour Day; Thanksgiving; Boxing Day, two days later if on a weekend: where Christmas Day is a Sunday, both are on the 26th. No Civic
+-- Holiday.
 unfoldable pub getCanadaHolidays : ℕ → List ℕ
 getCanadaHolidays year =
     let holidays = insert [] (adjustForWeekend (dayNumber year 1 1)) in  -- New Year's Day

@@ -3,3 +3,4 @@ pub mod Uk
 pub mod Canada
 pub mod Markets
 pub mod Years
+pub mod Inner

@@ -1,4 +1,5 @@
--- Which days trade, as src/markets/mod.rs has it: docs/SCOPE.md [markets], [trading-day], [is-holiday]. Assumes nothing.
+-- Which days trade, as src/markets/mod.rs has it: docs/SCOPE.md [markets], [trading-day], [is-holiday]. A day is its day number.
+-- Assumes nothing.
 use Prim.Native.Nat.{ℕ}
 use mathlib.Core.Bool.{Bool, not, _&&_, _||_}
 use mathlib.Core.List.{List, [], _∷_}
@@ -19,7 +20,7 @@ holidaysByCode = getUsHolidays ∷ getUsHolidays ∷ getUkHolidays ∷ getJapanH
 unfoldable pub isMarket : ℕ → Bool
 isMarket market = ltb market (length holidaysByCode)
 
--- The holidays of a market in a year; any other code has none.
+-- The holidays of a market in a year. Any other code has none; the calls check the code first.
 unfoldable pub holidays : ℕ → ℕ → List ℕ
 holidays market = getD holidaysByCode market (λ year. [])
 
@@ -31,6 +32,6 @@ isWeekend n = eqb (weekdayOf n) saturday || eqb (weekdayOf n) sunday
 unfoldable pub isHoliday : ℕ → ℕ → Bool
 isHoliday market n = contains (holidays market (dateOf n .year)) n
 
--- MarketImpl::is_trading_day
+-- MarketImpl::is_trading_day: day n is no holiday and on no weekend.
 unfoldable pub isTradingDay : ℕ → ℕ → Bool
 isTradingDay market n = not (isHoliday market n) && not (isWeekend n)

@@ -1,6 +1,6 @@
 -- The holidays of LSE, as src/markets/uk/holidays.rs has them: docs/SCOPE.md [lse-holidays]. Assumes nothing.
 use Prim.Native.Nat.{ℕ, _+_}
-use mathlib.Core.Bool.{Bool, cond, _||_}
+use mathlib.Core.Bool.{cond}
 use mathlib.Core.List.{List, []}
 use lib.Dec.{eqb}
 use Rattle.gregorian.specs.Calendar.{monday, friday, saturday, sunday, dayNumber, weekdayOf}
@@ -31,16 +31,3 @@ getUkHolidays year =
     let holidays = insertDay holidays (lastWeekdayOfMonth year 8 monday) in  -- Summer Bank Holiday
     let holidays = insert holidays (adjustForWeekend (dayNumber year 12 25)) in  -- Christmas Day
     addBoxingDay holidays year
-
--- The shorter account of Christmas Day and add_boxing_day, [lse-holidays]: n is one of the two days of December, from the day
--- number of Christmas Day and its weekday. They insert just these: proofs/UkLaws.antt, `uk-contains`. No exported contract
--- rests on it.
-abbrev pub isOneOfTwo : ℕ → ℕ → ℕ → Bool
-isOneOfTwo n christmas weekday =
-    cond (eqb weekday friday) (eqb n christmas || eqb n (christmas + 3))
-    (cond (eqb weekday saturday) (eqb n (christmas + 2) || eqb n (christmas + 3))
-    (cond (eqb weekday sunday) (eqb n (christmas + 1) || eqb n (christmas + 2))
-    (eqb n christmas || eqb n (christmas + 1))))
-
-unfoldable pub isChristmasOrBoxingDay : ℕ → ℕ → Bool
-isChristmasOrBoxingDay year n = let christmas = dayNumber year 12 25 in isOneOfTwo n christmas (weekdayOf christmas)

@@ -1,5 +1,4 @@
-// Which days trade, as src/markets of the Rust has it; the holidays of TSE are those of the crate `japan`. Labels in brackets
-// are those of docs/SCOPE.md.
+// Which days trade, as src/markets of the Rust has it; the holidays of TSE are those of the crate `japan`.
 pub mod canada;
 pub mod uk;
 pub mod us;

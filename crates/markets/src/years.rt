@@ -1,4 +1,4 @@
-// The years that are answered, and the days at which a search for a neighbour ends. Labels in brackets are those of docs/SCOPE.md.
+// The years that are answered, and the days at which a search for a neighbour ends.
 ghost use mathlib.Core.Path.{_≡_};
 ghost use Rattle.markets.specs.Years.{isSupported, firstDayOf, lastDayOf};
 use gregorian::FIRST_DAY;

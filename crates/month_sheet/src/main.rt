@@ -1,5 +1,4 @@
-// Prints the month sheet that standard input asks for, or the number of the error [sheet-program]. Labels in brackets are those of
-// docs/SCOPE.md.
+// Prints the month sheet that standard input asks for, or the number of the error [sheet-program].
 mod input;
 mod output;
 

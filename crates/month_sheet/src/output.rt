@@ -1,4 +1,4 @@
-// What is printed. Labels in brackets are those of docs/SCOPE.md.
+// What is printed.
 ghost use mathlib.Core.Path.{_≡_};
 ghost use mathlib.Core.List.{List};
 ghost use Prim.Native.Nat.{ℕ, _≤_};

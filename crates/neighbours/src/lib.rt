@@ -1,5 +1,4 @@
-// The neighbouring trading days, as the methods of `MarketImpl` in src/markets/mod.rs of the Rust find them. Labels in brackets
-// are those of docs/SCOPE.md.
+// The neighbouring trading days, as the methods of `MarketImpl` in src/markets/mod.rs of the Rust find them.
 ghost use mathlib.Core.Path.{_≡_};
 ghost use Prim.Native.Nat.{_≤_};
 ghost use Rattle.gregorian.specs.Calendar.{lastDay};

@@ -60,7 +60,7 @@ tradingDaysInMonthBuffer market year month buffer =
 
 -- ---- the count
 
--- count_trading_days: error 8, and those of the range
+-- count_trading_days: error 8, then those of `checkedRange`, 5, 5 and 1, the last with the start
 abbrev pub countTradingDaysResult : ℕ → ℕ → ℕ → ℕ → ℕ → ℕ → ℕ → CountResult
 countTradingDaysResult market startYear startMonth startDay endYear endMonth endDay =
     cond (not (isMarket market)) (CountResult.Err UnknownMarket)

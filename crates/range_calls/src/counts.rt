@@ -1,4 +1,4 @@
-// The calls of src/calendar.rs about the days of a month and of a range. Labels in brackets are those of docs/SCOPE.md.
+// The calls of src/calendar.rs about the days of a month and of a range.
 ghost use mathlib.Core.Path.{_≡_};
 ghost use mathlib.Core.Bool.{true};
 ghost use lib.ListN.{length};

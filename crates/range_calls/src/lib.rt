@@ -1,12 +1,11 @@
-// The calls of src/calendar.rs of the Rust about ranges of days, on numbers: here those about the neighbouring trading days. Labels
-// in brackets are those of docs/SCOPE.md.
+// The calls of src/calendar.rs of the Rust about ranges of days, on numbers: here those about the neighbouring trading days.
 pub mod counts;
 
 ghost use mathlib.Core.Path.{_≡_};
 ghost use mathlib.Core.Bool.{true};
 ghost use Prim.Native.Nat.{_≤_};
 ghost use Rattle.gregorian.specs.Calendar.{lastDay, isDate, dayNumber, dateOf};
-ghost use Rattle.utils.specs.Weekday.{InYears};
+ghost use Rattle.utils.specs.Inner.{InYears};
 ghost use Rattle.range_calls.specs.RangeCalls.{distanceOf, tradingDay, tradingDayResult, nextTradingDayResult, previousTradingDayResult};
 use checks::DayResult;
 use checks::checked_day;

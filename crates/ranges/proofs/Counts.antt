@@ -7,8 +7,8 @@ use mathlib.Core.List.{List, [], _∷_}
 use lib.ListN.{length, length-append}
 use native.Mathlib.Nat.{zero-add}
 use native.Mathlib.Omega.{arith}
-use Rattle.ranges.specs.Ranges.{daysFrom, keep, filter, tradingDays, oneMore, countFrom, countTradingDays, parts, sumOf}
-use Rattle.ranges.specs.Agreement.{Splits, countOf}
+use Rattle.ranges.specs.Ranges.{daysFrom, keep, filter, tradingDays, oneMore, countFrom, countTradingDays, sumOf}
+use Rattle.ranges.specs.Agreement.{parts, Splits, countOf}
 use Rattle.ranges.proofs.Lists.{trading-split}
 
 pub splits-order : (a : ℕ) (splits : List ℕ) (b : ℕ) → Splits a splits b → a ≤ suc b

@@ -7,8 +7,8 @@ use mathlib.Core.List.{List, [], _∷_, _++_, append-nil}
 use lib.Dec.{leb}
 use native.Mathlib.Omega.{arith}
 use borrow.Author.Tests.{le-leb, lt-leb}
-use Rattle.ranges.specs.Ranges.{tradingDays, DateRange, joined, limitTo}
-use Rattle.ranges.specs.Agreement.{Tile, listOf}
+use Rattle.ranges.specs.Ranges.{tradingDays, joined}
+use Rattle.ranges.specs.Agreement.{DateRange, limitTo, Tile, listOf}
 use Rattle.ranges.proofs.Items.{every-trading-day, all-pass, none-pass}
 use Rattle.ranges.proofs.Lists.{filter-append, trading-none, trading-split}
 

@@ -10,9 +10,11 @@ use native.Mathlib.Omega.{arith}
 use Rattle.gregorian.specs.Calendar.{firstDay, lastDay}
 use Rattle.utils.specs.declared.OptionalDay.{OptionalDay}
 use Rattle.utils.specs.declared.OptionalDay.the-variants.{Day, None}
-use Rattle.utils.specs.Weekday.{InYears, mapDay}
+use Rattle.utils.specs.Weekday.{mapDay}
+use Rattle.utils.specs.Inner.{InYears}
 use Rattle.ranges.specs.Ranges.{daysBetween, nextTradingDay, previousTradingDay}
-use Rattle.ranges.specs.Steps.{NonTradingBetween, NextCall, PreviousCall, ShortRuns, ShortSteps, StepsAreShort, StepsUndo}
+use Rattle.ranges.specs.Steps.{NextCall, PreviousCall, ShortRuns, ShortSteps, StepsAreShort, StepsUndo}
+use Rattle.ranges.specs.Traversals.{NonTradingBetween}
 use Rattle.ranges.proofs.Lists.{order, clash, between-length}
 use Rattle.ranges.proofs.Search.{no-day, same-day, finds, is-first, finds-one}
 use Rattle.ranges.proofs.Mirror.{mirrored, previous-mirror}
@@ -112,7 +114,7 @@ previous-further trades most first low n m o h c =
     (previous-by trades first n m o (omega (arith, r .0)) (r .1), c .1, c .2)
 
 -- Each call undoes the other.
-pub steps-undo : (trades : ℕ → Bool) (first last : ℕ) → 1 ≤ first → StepsUndo trades first last
+pub steps-undo : StepsUndo
 steps-undo trades first last o = record {
   previous-of-next = λ n m h t e.
       let b = next-is trades last n m e .1 in
@@ -163,5 +165,5 @@ module _ (trades : ℕ → Bool) (most first last : ℕ) (runs : ShortRuns trade
           (r .0, previous-is-short n (r .0) h (r .1));
     }
 
-pub steps-are-short : (trades : ℕ → Bool) (most first last : ℕ) → StepsAreShort trades most first last
+pub steps-are-short : StepsAreShort
 steps-are-short trades most first last o runs = short-steps trades most first last runs o

@@ -10,7 +10,8 @@ use borrow.Author.Tests.{leb-true}
 use Rattle.utils.specs.declared.OptionalDay.the-variants.{None}
 use Rattle.ranges.specs.Ranges.{tradingDays, nextTradingDay, previousTradingDay}
 use Rattle.ranges.specs.Steps.{NextCall, PreviousCall, ShortRuns, ShortSteps}
-use Rattle.ranges.specs.Agreement.{TraversalTo, Traversal, AgreementTo, AgreementToEnds, Agreement, Agree, AgreeInside}
+use Rattle.ranges.specs.Agreement.{AgreementTo, AgreementToEnds, Agreement, Agree, AgreeInside}
+use Rattle.ranges.specs.Traversals.{TraversalTo, Traversal}
 use Rattle.ranges.proofs.Search.{no-day}
 use Rattle.ranges.proofs.StepLaws.{steps-are-short, next-further, previous-further}
 use Rattle.ranges.proofs.Traversals.{traversal-of, every-call-answers, forward, backward}
@@ -34,7 +35,7 @@ agreement trades most first last a b NextEnds PreviousEnds o h f g =
       months = λ from to rs t f l. limited-months trades a b from to rs o h t f l;
     }
 
-pub agree : (trades : ℕ → Bool) (most first last : ℕ) → Agree trades most first last
+pub agree : Agree
 agree trades most first last a b o runs l h z =
     agreement trades most first last a b _ _ (omega arith) h (forward trades most first last runs b z a (omega arith) l h)
     (backward trades most first last o runs a b l h z)
@@ -65,5 +66,5 @@ module _ (trades : ℕ → Bool) (most first last low high a b : ℕ) (o : 1 ≤
   inside : Agreement trades most first last a b
   inside = agreement trades most first last a b _ _ (omega arith) h answers-forward answers-backward
 
-pub agree-inside : (trades : ℕ → Bool) (most first last : ℕ) → AgreeInside trades most first last
+pub agree-inside : AgreeInside
 agree-inside trades most first last low high a b o runs f z p h q = inside trades most first last low high a b o runs f z p h q

@@ -12,7 +12,7 @@ use Rattle.utils.specs.declared.OptionalDay.the-variants.{Day, None}
 use Rattle.utils.specs.Weekday.{mapDay}
 use Rattle.ranges.specs.Ranges.{tradingDays, nextTradingDay, previousTradingDay}
 use Rattle.ranges.specs.Steps.{NextCall, PreviousCall, ShortRuns}
-use Rattle.ranges.specs.Agreement.{TraversalTo, EndsOutside, TraversalOf, EndsOutsideOrNone}
+use Rattle.ranges.specs.Traversals.{TraversalTo, EndsOutside, Traversal, TraversalOf, EndsOutsideOrNone}
 use Rattle.ranges.proofs.Lists.{clash, order, all-fail, first-passes, trading-mirror}
 use Rattle.ranges.proofs.Search.{none-or-day, none-trades}
 use Rattle.ranges.proofs.Mirror.{mirrored, previous-mirror, mirror-call, mirror-runs}
@@ -32,6 +32,12 @@ module _ {A B : Type 0} (f : A → B) (C : A → A → Type 0) (D : B → B → 
 
   pub outside-map : (n : A) → P n → EndsOutside C p n → EndsOutside D q (f n)
   outside-map n k t = let g = h n (t .0) k (t .1) in (f (t .0), g .0, g .1 ∙ t .2)
+
+-- The same traversal by calls of which less is known.
+pub traversal-weaker : {A : Type 0} (C D : A → A → Type 0) (p : A → Bool) → ((n m : A) → C n m → D n m)
+    → (n : A) (l : List A) → Traversal C p n l → Traversal D p n l
+traversal-weaker C D p h n [] t = (t .0, h n (t .0) (t .1), t .2)
+traversal-weaker C D p h n (m ∷ l) t = (h n m (t .0), t .1, traversal-weaker C D p h m l (t .2))
 
 -- Where a call has one answer, and one that ends the traversal none inside, a traversal has one list.
 module _ {A : Type 0} (C : A → A → Type 0) (p : A → Bool) (h : (n m k : A) → C n m → C n k → m ≡ k) where

@@ -1,43 +1,27 @@
--- What it is for the ways to the trading days of a range to agree: docs/SCOPE.md [agreement]. Assumes nothing.
+-- The claim over any rule of which days trade: where runs of non-trading days are short, the ways to the trading days of a range agree.
+-- docs/SCOPE.md [agreement] is this for the calls. Assumes nothing.
 use Prim.Native.Nat.{ℕ, suc, _+_, _-_, _≤_}
 use mathlib.Core.Path.{_≡_}
-use mathlib.Core.Bool.{Bool, true, false}
-use mathlib.Core.Logic.{_⊎_}
+use mathlib.Core.Bool.{Bool, _&&_}
 use mathlib.Core.List.{List, [], _∷_, reverse}
 use lib.Dec.{leb}
 use lib.ListN.{length}
 use Rattle.utils.specs.declared.OptionalDay.the-variants.{None}
-use Rattle.ranges.specs.Ranges.{tradingDays, nextTradingDay, previousTradingDay, countTradingDays, DateRange, parts, sumOf, joined, limitTo}
+use Rattle.ranges.specs.Ranges.{filter, tradingDays, nextTradingDay, previousTradingDay, countTradingDays, sumOf, joined}
+use Rattle.ranges.specs.Traversals.{TraversalTo, EndsOutside, TraversalOf, EndsOutsideOrNone}
 use Rattle.ranges.specs.Steps.{NextCall, PreviousCall, ShortRuns}
 
--- ---- traversals
-
--- A traversal ("walk") from n lists these answers: call after call, each on the answer before, while that is inside. `Call n m` says
--- that the call on n answers m, and what else is to hold of that call ("step"). `Ends n` says that the call on n ends the traversal; its
--- answer, if any, is not listed. proofs/Traversals.antt, `traversal-unique`: where a call has one answer, and one that ends the traversal
--- has none inside, there is no other list.
-abbrev pub TraversalTo : {A : Type 0} → (A → A → Type 0) → (A → Bool) → (A → Type 0) → A → List A → Type 0
-TraversalTo Call inside Ends n [] = Ends n
-TraversalTo Call inside Ends n (m ∷ ms) = Call n m × (inside m ≡ true) × TraversalTo Call inside Ends m ms
-
--- the call on n answers, and the answer is not inside
-abbrev pub EndsOutside : {A : Type 0} → (A → A → Type 0) → (A → Bool) → A → Type 0
-EndsOutside Call inside n = (m : _) × Call n m × (inside m ≡ false)
-
--- Only such an answer ends the traversal: every call answers, the last one too.
-abbrev pub Traversal : {A : Type 0} → (A → A → Type 0) → (A → Bool) → A → List A → Type 0
-Traversal Call inside = TraversalTo Call inside (EndsOutside Call inside)
-
--- A traversal that starts on the first item of its own list, a range's trading days. Where there is none, nothing is called.
-abbrev pub TraversalOf : {A : Type 0} → (A → A → Type 0) → (A → Bool) → (A → Type 0) → List A → Type 0
-TraversalOf Call inside Ends [] = Unit {0}
-TraversalOf Call inside Ends (m ∷ ms) = TraversalTo Call inside Ends m ms
-
--- It ends with an answer that is not inside, or with none: `NoAnswer n` says that the call on n answers none.
-abbrev pub EndsOutsideOrNone : {A : Type 0} → (A → A → Type 0) → (A → Type 0) → (A → Bool) → A → Type 0
-EndsOutsideOrNone Call NoAnswer inside n = EndsOutside Call inside n ⊎ NoAnswer n
-
 -- ---- parts and months
+
+pub record DateRange : Type 0 where
+  pub first : ℕ
+  pub last : ℕ
+
+-- [agreement-parts]: the parts ("pieces") of the range from a to b. Each split date ("cut date") starts a part, and the part before it
+-- ends on the day before.
+abbrev pub parts : ℕ → List ℕ → ℕ → List DateRange
+parts a [] b = record { first = a; last = b } ∷ []
+parts a (c ∷ splits) b = record { first = a; last = c - 1 } ∷ parts c splits b
 
 -- [reading-split-dates]: the split dates are in order, from a to b or the day after b, which starts an empty part. Two may be equal.
 -- In the recursion, a is the split date before.
@@ -57,10 +41,14 @@ countOf trades r = countTradingDays trades (r .first) (r .last)
 abbrev pub listOf : (ℕ → Bool) → DateRange → List ℕ
 listOf trades r = tradingDays trades (r .first) (r .last)
 
+-- [agreement-months]: those of the days that lie from a to b
+abbrev pub limitTo : ℕ → ℕ → List ℕ → List ℕ
+limitTo a b = filter (λ n. leb a n && leb n b)
+
 -- ---- the theorem
 
 -- The ways to the trading days from a to b agree: [agreement-forward], [agreement-backward], [agreement-count], [agreement-parts] and
--- [agreement-months]. All days are those from `first` to `last`. Both starts of a traversal are stated: on the day beside the range, and,
+-- [agreement-months]. All days are those from `first`, which is at least 1, to `last`. Both starts of a traversal are stated: on the day beside the range, and,
 -- for where that is no day of these, on the first or the last trading day of the range. `NextEnds` and `PreviousEnds` say how it ends.
 pub record AgreementTo (trades : ℕ → Bool) (most first last a b : ℕ) (NextEnds PreviousEnds : ℕ → Type 0) : Type 0 where
   pub forward : TraversalTo (NextCall trades most last) (λ m. leb m b) NextEnds (a - 1) (tradingDays trades a b)
@@ -83,14 +71,15 @@ abbrev pub Agreement : (ℕ → Bool) → ℕ → ℕ → ℕ → ℕ → ℕ �
 Agreement trades most first last a b =
     AgreementTo trades most first last a b (EndsOutside (NextCall trades most last) (λ m. leb m b)) (EndsOutside (PreviousCall trades most first) (λ m. leb a m))
 
--- The theorem: where runs are short, for every range from `first` to `last`, both included.
-abbrev pub Agree : (ℕ → Bool) → ℕ → ℕ → ℕ → Type 0
-Agree trades most first last =
-    (a b : ℕ) → 1 ≤ first → ShortRuns trades most first last → first ≤ a → a ≤ b → b ≤ last → AgreementToEnds trades most first last a b
+-- the claim: where runs are short, for every range within `first` to `last`; a traversal may end by none
+abbrev pub Agree : Type 0
+Agree =
+    (trades : ℕ → Bool) (most first last a b : ℕ) → 1 ≤ first → ShortRuns trades most first last → first ≤ a → a ≤ b → b ≤ last
+    → AgreementToEnds trades most first last a b
 
--- What follows where runs are short from `low` to `high`, which reach further than the range by `most + 1` days on each side, whatever
--- the runs are before and after.
-abbrev pub AgreeInside : (ℕ → Bool) → ℕ → ℕ → ℕ → Type 0
-AgreeInside trades most first last =
-    (low high a b : ℕ) → 1 ≤ first → ShortRuns trades most low high → first ≤ low → high ≤ last → low + suc most ≤ a → a ≤ b → b + suc most ≤ high
-    → Agreement trades most first last a b
+-- The claim where runs are short from `low` to `high`, which reach further than the range by `most + 1` days on each side, whatever
+-- the runs are before and after: no traversal ends by none.
+abbrev pub AgreeInside : Type 0
+AgreeInside =
+    (trades : ℕ → Bool) (most first last low high a b : ℕ) → 1 ≤ first → ShortRuns trades most low high → first ≤ low → high ≤ last
+    → low + suc most ≤ a → a ≤ b → b + suc most ≤ high → Agreement trades most first last a b

@@ -1,3 +1,4 @@
 pub mod Ranges
+pub mod Traversals
 pub mod Steps
 pub mod Agreement

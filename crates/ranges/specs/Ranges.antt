@@ -1,9 +1,8 @@
 -- The trading days of a date range and the ways to them: docs/SCOPE.md [next], [previous], [count], [agreement]. A day is its day
 -- number; `trades` is any rule of which days trade. Assumes nothing.
 use Prim.Native.Nat.{ℕ, zero, suc, _+_, _-_}
-use mathlib.Core.Bool.{Bool, true, false, _&&_}
+use mathlib.Core.Bool.{Bool, true, false}
 use mathlib.Core.List.{List, [], _∷_, _++_, reverse}
-use lib.Dec.{leb}
 use Rattle.utils.specs.declared.OptionalDay.{OptionalDay}
 use Rattle.utils.specs.declared.OptionalDay.the-variants.{Day, None}
 
@@ -53,11 +52,11 @@ unfoldable pub find : (ℕ → Bool) → List ℕ → OptionalDay
 find trades [] = None
 find trades (n ∷ ds) = found (trades n) n (find trades ds)
 
--- [next]: of the days after n, up to the last of all
+-- [next]: the first that trades of the days after n, up to the last of all
 abbrev pub nextTradingDay : (ℕ → Bool) → ℕ → ℕ → OptionalDay
 nextTradingDay trades last n = find trades (days (suc n) last)
 
--- [previous]: of the days before n, down to the first of all
+-- [previous]: the last that trades of the days before n, down to the first of all
 abbrev pub previousTradingDay : (ℕ → Bool) → ℕ → ℕ → OptionalDay
 previousTradingDay trades first n = find trades (reverse (days first (n - 1)))
 
@@ -76,17 +75,7 @@ countFrom trades count a (suc k) = countFrom trades (oneMore (trades a) count) (
 abbrev pub countTradingDays : (ℕ → Bool) → ℕ → ℕ → ℕ
 countTradingDays trades a b = countFrom trades 0 a (suc b - a)
 
--- ---- parts and months
-
-pub record DateRange : Type 0 where
-  pub first : ℕ
-  pub last : ℕ
-
--- [agreement-parts]: the parts ("pieces") of the range from a to b. Each split date ("cut date") starts a part, and the part before it
--- ends on the day before.
-abbrev pub parts : ℕ → List ℕ → ℕ → List DateRange
-parts a [] b = record { first = a; last = b } ∷ []
-parts a (c ∷ splits) b = record { first = a; last = c - 1 } ∷ parts c splits b
+-- ---- sums and joined lists
 
 -- the sum of a number for each item
 abbrev pub sumOf : {A : Type 0} → (A → ℕ) → List A → ℕ
@@ -97,7 +86,3 @@ sumOf f (x ∷ l) = f x + sumOf f l
 abbrev pub joined : {A B : Type 0} → (A → List B) → List A → List B
 joined f [] = []
 joined f (x ∷ l) = f x ++ joined f l
-
--- [agreement-months]: those of the days that lie from a to b
-abbrev pub limitTo : ℕ → ℕ → List ℕ → List ℕ
-limitTo a b = filter (λ n. leb a n && leb n b)

@@ -1,2 +1,1 @@
-// The trading days of a date range, over any rule of which days trade: definitions and theorems, without code. Labels in brackets
-// are those of docs/SCOPE.md.
+// The trading days of a date range, over any rule of which days trade: definitions and theorems, without code.

@@ -1,4 +1,4 @@
--- What appending a decimal digit to a number gives.
+-- What appending a decimal digit to a number gives. Assumes nothing.
 use Prim.Native.Nat.{ℕ, _+_, _*_, _^_}
 use mathlib.Core.Bool.{Bool, true, false}
 use lib.Dec.{ltb}

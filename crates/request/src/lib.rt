@@ -1,4 +1,4 @@
-// The reader of the text that asks for a month sheet [sheet-input]. Labels in brackets are those of docs/SCOPE.md.
+// The reader of the text that asks for a month sheet [sheet-input].
 ghost use mathlib.Core.Path.{_≡_};
 ghost use lib.Dec.{eqb};
 ghost use lib.ListN.{getD};

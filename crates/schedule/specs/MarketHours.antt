@@ -7,7 +7,7 @@ use mathlib.Core.List.{List, [], _∷_}
 use lib.Dec.{eqb}
 use lib.ListN.{length, getD}
 use Rattle.gregorian.specs.declared.Date.{Date}
-use Rattle.gregorian.specs.Calendar.{dayNumber}
+use Rattle.gregorian.specs.Calendar.{number}
 use Rattle.utils.specs.declared.OptionalDay.{OptionalDay}
 use Rattle.utils.specs.Weekday.{mapDay}
 use Rattle.days.specs.Days.{isDay}
@@ -16,7 +16,7 @@ use Rattle.markets.specs.Us.{thanksgivingDay}
 use Rattle.schedule.specs.declared.OptionalSession.{OptionalSession}
 use Rattle.schedule.specs.declared.OptionalTime.{OptionalTime}
 use Rattle.schedule.specs.declared.TradingHours.{TradingHours}
-use Rattle.schedule.specs.Schedule.{session, hoursNew}
+use Rattle.schedule.specs.Schedule.{session, setEarlyClose, hoursNew}
 
 -- the day after Thanksgiving
 abbrev pub blackFriday : ℕ → OptionalDay
@@ -25,26 +25,23 @@ blackFriday year = mapDay (λ n. n + 1) (thanksgivingDay year)
 -- USMarket::is_early_close_day: the day after Thanksgiving; 3 July if the 4th is a weekday; 24 December on a weekday
 unfoldable pub isEarlyCloseDay : Date → Bool
 isEarlyCloseDay date =
-    let n = dayNumber (date .year) (date .month) (date .day) in
+    let n = number date in
     isDay (blackFriday (date .year)) n
     || eqb (date .month) 7 && eqb (date .day) 3 && not (isWeekend (n + 1))
     || eqb (date .month) 12 && eqb (date .day) 24 && not (isWeekend n)
 
--- 9:30 to 16:00, pre-market from 4:00, after-hours to 20:00
-abbrev pub usRegularHours : Date → TradingHours
-usRegularHours date =
-    hoursNew date (session 34200 57600) (OptionalSession.Some (session 14400 34200)) (OptionalSession.Some (session 57600 72000))
+-- 9:30 to 16:00, pre-market from 4:00, after-hours from the time given to 20:00
+abbrev pub usHours : ℕ → Date → TradingHours
+usHours afterHours date =
+    hoursNew date (session 34200 57600) (OptionalSession.Some (session 14400 34200)) (OptionalSession.Some (session afterHours 72000))
 
--- the early close at 13:00, and the after-hours from then on
+-- after-hours from 16:00, the regular end
+abbrev pub usRegularHours : Date → TradingHours
+usRegularHours = usHours 57600
+
+-- the regular hours, with after-hours from 13:00 and an early close then
 abbrev pub usEarlyHours : Date → TradingHours
-usEarlyHours date =
-    record {
-      date = date;
-      «pre_market» = OptionalSession.Some (session 14400 34200);
-      regular = session 34200 57600;
-      «after_hours» = OptionalSession.Some (session 46800 72000);
-      «early_close» = OptionalTime.Some 46800;
-    }
+usEarlyHours date = setEarlyClose (usHours 46800 date) (OptionalTime.Some 46800)
 
 -- USMarket::trading_hours
 unfoldable pub usTradingHours : Date → TradingHours

@@ -15,6 +15,10 @@ use Rattle.schedule.specs.declared.HoursResult.{HoursResult}
 abbrev pub session : ℕ → ℕ → Session
 session start end = record { start = start; end = end }
 
+-- no session, where an answer has none
+abbrev pub noSession : Session
+noSession = session 0 0
+
 -- Session::new
 unfoldable pub sessionNew : ℕ → ℕ → SessionResult
 sessionNew start end = cond (eqb end start) (SessionResult.Err InvalidSession) (SessionResult.Ok (session start end))

@@ -1,5 +1,5 @@
 // Sessions and trading hours, as src/schedule.rs of the Rust, and the hours of each market. A time is a second of the day, and any
-// other number is taken too. Labels in brackets are those of docs/SCOPE.md.
+// other number is taken too.
 pub mod constants;
 pub mod us;
 
@@ -7,7 +7,7 @@ ghost use mathlib.Core.Path.{_≡_};
 ghost use mathlib.Core.Bool.{true, _&&_};
 ghost use lib.Dec.{ltb, leb};
 ghost use Rattle.gregorian.specs.declared.Date.{Date};
-ghost use Rattle.gregorian.specs.Calendar.{isDate};
+ghost use Rattle.gregorian.specs.Calendar.{isDateOf};
 ghost use Rattle.schedule.specs.Schedule.{sessionNew, contains, mayContain, isReached};
 ghost use Rattle.schedule.specs.Schedule.{hoursNew, withEarlyClose, isEarlyClose, marketClose, isOpenAt};
 ghost use Rattle.schedule.specs.MarketHours.{regularHours, tradingHours};
@@ -220,7 +220,7 @@ pub fn is_market_open_at(market: u32, time: u32) -> bool
 
 // [trading-hours]: a code that is no market's has the hours 0 to 0.
 pub fn trading_hours(market: u32, date: Date) -> TradingHours
-    requires { ⌜ isDate (date .year) (date .month) (date .day) ≡ true ⌝ }
+    requires { ⌜ isDateOf date ≡ true ⌝ }
     ensures { λ r. ⌜ r ≡ tradingHours market date ⌝ }
 {
     match market {

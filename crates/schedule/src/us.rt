@@ -1,8 +1,7 @@
-// The hours and early closes of NYSE and NASDAQ, as src/markets/us/mod.rs of the Rust. Labels in brackets are those of
-// docs/SCOPE.md.
+// The hours and early closes of NYSE and NASDAQ, as src/markets/us/mod.rs of the Rust.
 ghost use mathlib.Core.Path.{_≡_};
 ghost use mathlib.Core.Bool.{true};
-ghost use Rattle.gregorian.specs.Calendar.{isDate};
+ghost use Rattle.gregorian.specs.Calendar.{isDateOf};
 ghost use Rattle.days.specs.Days.{isDay};
 ghost use Rattle.schedule.specs.MarketHours.{blackFriday, isEarlyCloseDay, usTradingHours};
 use crate::OptionalSession;
@@ -27,7 +26,7 @@ fn is_black_friday(year: u32, n: u32) -> bool
 
 // [early-close]: also 3 July before a weekday, and 24 December on one.
 fn is_early_close_day(date: Date) -> bool
-    requires { ⌜ isDate (date .year) (date .month) (date .day) ≡ true ⌝ }
+    requires { ⌜ isDateOf date ≡ true ⌝ }
     ensures { λ r. ⌜ r ≡ isEarlyCloseDay date ⌝ }
 {
     let n = gregorian::day_number(date.year, date.month, date.day);
@@ -38,7 +37,7 @@ fn is_early_close_day(date: Date) -> bool
 
 // [trading-hours], [early-close]: on an early close the after-hours begin with it.
 pub fn trading_hours(date: Date) -> TradingHours
-    requires { ⌜ isDate (date .year) (date .month) (date .day) ≡ true ⌝ }
+    requires { ⌜ isDateOf date ≡ true ⌝ }
     ensures { λ r. ⌜ r ≡ usTradingHours date ⌝ }
 {
     let regular = Session {

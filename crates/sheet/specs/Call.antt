@@ -1,4 +1,4 @@
--- The call: docs/SCOPE.md [sheet-return], [errors]. Assumes nothing.
+-- The call for a month sheet: docs/SCOPE.md [sheet-return], [errors]. Assumes nothing.
 use Prim.Native.Nat.{ℕ}
 use mathlib.Core.List.{List}
 use lib.ListN.{length}

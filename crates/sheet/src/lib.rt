@@ -1,5 +1,4 @@
-// The call for a month sheet: a text that names a month of a market, and the sheet of its trading days. Labels in brackets are
-// those of docs/SCOPE.md.
+// The call for a month sheet: a text that names a month of a market, and the sheet of its trading days.
 ghost use mathlib.Core.Path.{_≡_};
 ghost use Prim.Native.Nat.{_≤_};
 ghost use lib.ListN.{length};

@@ -10,7 +10,8 @@ use native.Mathlib.Omega.{arith}
 use Rattle.buffers.proofs.BufferLaws.{rest-is}
 use Rattle.decimal.specs.Decimal.{decimal}
 use Rattle.request.specs.Text.{ascii, textOf}
-use Rattle.sheet_lines.specs.Sheet.{commaSeparated, sheetLines, sheetLine, sheetFrom, sheetText}
+use Rattle.sheet_lines.specs.Sheet.{commaSeparated, sheetLines, sheetText}
+use Rattle.sheet_lines.specs.Inner.{sheetLine, sheetFrom}
 
 -- ---- lines
 

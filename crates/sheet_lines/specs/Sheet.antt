@@ -1,7 +1,7 @@
 -- The month sheet: docs/SCOPE.md [sheet-output], [sheet-numbers]. Assumes nothing.
 use Prim.Native.Nat.{ℕ}
 use mathlib.Core.List.{List, [], _∷_, _++_}
-use lib.ListN.{length, drop, getD}
+use lib.ListN.{length}
 use Rattle.decimal.specs.Decimal.{decimal}
 use Rattle.trading_days.specs.Month.{monthList}
 use Rattle.request.specs.Text.{ascii, textOf}
@@ -29,11 +29,3 @@ sheetText market year month days = textOf (sheetLines market year month days)
 -- the sheet of a month, with the days of the month list
 abbrev pub monthSheet : ℕ → ℕ → ℕ → List ℕ
 monthSheet market year month = sheetText market year month (monthList market year month)
-
--- ---- line k, of which the first has number 0, with its line feed; and the text from it on
-
-abbrev pub sheetLine : ℕ → ℕ → ℕ → ℕ → List ℕ → List ℕ
-sheetLine k market year month days = getD (sheetLines market year month days) k [] ++ ascii "\n"
-
-abbrev pub sheetFrom : ℕ → ℕ → ℕ → ℕ → List ℕ → List ℕ
-sheetFrom k market year month days = textOf (drop k (sheetLines market year month days))

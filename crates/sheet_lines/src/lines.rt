@@ -1,5 +1,4 @@
-// The writer of the sheet [sheet-output]. All functions answer how many bytes they wrote. Labels in brackets are those of
-// docs/SCOPE.md.
+// The writer of the sheet [sheet-output]. All functions answer how many bytes they wrote.
 ghost use mathlib.Core.Path.{_≡_};
 ghost use mathlib.Core.List.{[], _∷_, _++_};
 ghost use Prim.Native.Nat.{_≤_, _<_};
@@ -7,7 +6,8 @@ ghost use lib.ListN.{length};
 ghost use Rattle.buffers.specs.Buffers.{overwrite};
 ghost use Rattle.decimal.specs.Decimal.{decimal};
 ghost use Rattle.request.specs.Text.{ascii};
-ghost use Rattle.sheet_lines.specs.Sheet.{commaSeparated, sheetLine, sheetFrom};
+ghost use Rattle.sheet_lines.specs.Sheet.{commaSeparated};
+ghost use Rattle.sheet_lines.specs.Inner.{sheetLine, sheetFrom};
 use crate::length::wide;
 
 // A number, and the byte that ends it.

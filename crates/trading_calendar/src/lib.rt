@@ -1,5 +1,4 @@
-// The calls that a host in C or Rust makes. Every call takes every number and every text, so none has a
-// `requires`. Labels in brackets are those of docs/SCOPE.md.
+// The calls that a host in C or Rust makes. Every call takes every number and every text, so none has a `requires`.
 pub mod neighbours;
 pub mod ranges;
 pub mod sheets;

@@ -1,4 +1,4 @@
-// The calls about the neighbouring trading days. Labels in brackets are those of docs/SCOPE.md.
+// The calls about the neighbouring trading days.
 ghost use mathlib.Core.Path.{_≡_};
 ghost use Rattle.range_calls.specs.RangeCalls.{nextTradingDayResult, previousTradingDayResult};
 ghost use Rattle.answers.specs.Answers.{tradingDayAnswer};

@@ -1,4 +1,4 @@
-// The calls about the trading days of a month and of a range. Labels in brackets are those of docs/SCOPE.md.
+// The calls about the trading days of a month and of a range.
 ghost use mathlib.Core.Path.{_≡_};
 ghost use Rattle.range_calls.specs.RangeCalls.{tradingDaysInMonthResult, tradingDaysInMonthBuffer, countTradingDaysResult};
 ghost use Rattle.answers.specs.Answers.{countAnswer};

@@ -1,4 +1,4 @@
-// The call for a month sheet. Labels in brackets are those of docs/SCOPE.md.
+// The call for a month sheet.
 ghost use mathlib.Core.Path.{_≡_};
 ghost use Rattle.sheet.specs.Call.{monthSheetResult, monthSheetBuffer};
 ghost use Rattle.answers.specs.Answers.{countAnswer};

@@ -1,4 +1,4 @@
-// The calls about hours that a host makes. Labels in brackets are those of docs/SCOPE.md.
+// The calls about hours that a host makes.
 ghost use mathlib.Core.Path.{_≡_};
 ghost use Rattle.gregorian.specs.Calendar.{date};
 ghost use Rattle.calendar.specs.Calls.{tradingHoursResult, isOpenResult};

@@ -1,5 +1,4 @@
-// The trading days of a range and of a month, as src/calendar.rs of the Rust finds them past its checks. Labels in brackets are those
-// of docs/SCOPE.md.
+// The trading days of a range and of a month, as src/calendar.rs of the Rust finds them past its checks.
 ghost use mathlib.Core.Path.{_≡_};
 ghost use mathlib.Core.Bool.{true};
 ghost use Prim.Native.Nat.{_≤_};

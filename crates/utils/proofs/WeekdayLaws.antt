@@ -6,14 +6,16 @@ use mathlib.Core.Bool.{Bool, true, false, cond, _&&_}
 use lib.Dec.{leb, eqb}
 use native.Mathlib.Omega.{arith}
 use borrow.Author.Tests.{leb-true, eqb-true, eqb-false, le-leb, le-ltb, lt-ltb, eq-eqb, ne-eqb}
-use Rattle.gregorian.specs.Calendar.{monthLength, dayNumber, lastDay, Exists, isDate, dayAfter, dateOf, date, weekdayOf}
+use Rattle.gregorian.specs.Calendar.{monthLength, dayNumber, lastDay, isDate, dayAfter, dateOf, date, weekdayOf}
+use Rattle.gregorian.specs.Inner.{Exists}
 use Rattle.gregorian.specs.declared.Date.{Date}
 use Rattle.gregorian.proofs.Tests.{and-left, and-right}
 use Rattle.gregorian.proofs.Laws.{days-on, is-date, date-is, month-low, next-number, number-range, date-of-number}
 use Rattle.gregorian.proofs.Weekdays.{weekday-weeks}
 use Rattle.utils.specs.declared.OptionalDay.{OptionalDay}
 use Rattle.utils.specs.declared.OptionalDay.the-variants.{Day, None}
-use Rattle.utils.specs.Weekday.{firstFrom, targetDay, ifInMonth, nthWeekdayOfMonth, lastUpTo, nextMonth, nextYear, firstOfNext, lastWeekdayOfMonth, InYears, mapDay}
+use Rattle.utils.specs.Weekday.{firstFrom, targetDay, ifInMonth, nthWeekdayOfMonth, lastUpTo, nextMonth, nextYear, firstOfNext, lastWeekdayOfMonth, mapDay}
+use Rattle.utils.specs.Inner.{InYears}
 
 -- what a test that leads to a day or to None says where there is a day
 pub when-day : (b : Bool) (x : OptionalDay) (t : ℕ) → cond b x None ≡ Day t → (b ≡ true) × (x ≡ Day t)

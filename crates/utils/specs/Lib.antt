@@ -1,2 +1,3 @@
 pub mod Weekday
 pub mod Easter
+pub mod Inner

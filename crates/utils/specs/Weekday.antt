@@ -1,16 +1,11 @@
 -- The nth and the last weekday of a month, as src/utils/mod.rs has them: docs/SCOPE.md [nth-weekday], [last-weekday].
 -- Weekdays are 0 Monday to 6 Sunday; days are day numbers. Assumes nothing.
-use Prim.Native.Nat.{ℕ, zero, suc, _+_, _-_, _*_, _%_, _≤_}
+use Prim.Native.Nat.{ℕ, zero, suc, _+_, _-_, _*_, _%_}
 use mathlib.Core.Bool.{cond, _&&_}
 use lib.Dec.{leb, eqb}
 use Rattle.gregorian.specs.Calendar.{lastDay, isDate, dayNumber, dateOf, weekdayOf}
 use Rattle.utils.specs.declared.OptionalDay.{OptionalDay}
 use Rattle.utils.specs.declared.OptionalDay.the-variants.{Day, None}
-
--- none, or a day of years 1 to 9999
-abbrev pub InYears : OptionalDay → Type 0
-InYears (Day n) = (1 ≤ n) × (n ≤ lastDay)
-InYears None = Unit {0}
 
 -- the Rust's `?`, and what follows it: None stays None
 abbrev pub mapDay : (ℕ → ℕ) → OptionalDay → OptionalDay
@@ -33,11 +28,13 @@ ifInMonth m t = cond (leb t lastDay && eqb (dateOf t .month) m) (Day t) None
 unfoldable pub nthWeekdayOfMonth : ℕ → ℕ → ℕ → ℕ → OptionalDay
 nthWeekdayOfMonth y m w n = cond (isDate y m 1 && leb w 6 && leb 1 n) (ifInMonth m (targetDay y m w n)) None
 
--- The Rust's loop: `while last_day.weekday() != weekday { last_day -= 1 }`.
+-- The last w on or before day n, by the Rust's loop, `while last_day.weekday() != weekday { last_day -= 1 }`; 0 if there is none, which
+-- no call meets.
 unfoldable pub lastUpTo : ℕ → ℕ → ℕ
 lastUpTo w zero = 0
 lastUpTo w (suc n) = let before = lastUpTo w n in cond (eqb (weekdayOf (suc n)) w) (suc n) before
 
+-- the number of the month after month m, and the year that it is in
 abbrev pub nextMonth : ℕ → ℕ
 nextMonth m = cond (eqb m 12) 1 (m + 1)
 

@@ -1,5 +1,4 @@
-// The nth and the last weekday of a month, and Easter, as src/utils of the Rust has them. Labels in brackets are those of
-// docs/SCOPE.md.
+// The nth and the last weekday of a month, and Easter, as src/utils of the Rust has them.
 pub mod easter;
 
 ghost use mathlib.Core.Path.{_≡_};

@@ -10,7 +10,8 @@ use Rattle.gregorian.specs.declared.Date.{Date}
 use Rattle.gregorian.specs.Calendar.{isDate, dayNumber}
 use Rattle.gregorian.proofs.Tests.{and-left, and-right}
 use Rattle.gregorian.proofs.Laws.{days-on, is-date, early-date, by-number}
-use Rattle.utils.specs.Weekday.{InYears, firstFrom, targetDay, nthWeekdayOfMonth}
+use Rattle.utils.specs.Weekday.{firstFrom, targetDay, nthWeekdayOfMonth}
+use Rattle.utils.specs.Inner.{InYears}
 use Rattle.utils.proofs.WeekdayLaws.{nth-early, nth-in-years}
 use Rattle.answers.specs.declared.OptionalDate.{OptionalDate}
 use Rattle.answers.specs.Answers.{optionalDate}

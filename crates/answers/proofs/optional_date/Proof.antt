@@ -3,7 +3,7 @@ use mathlib.Core.Path.{_≡_, ap, _∙_, subst}
 use borrow.Author.Needs.{needs}
 use Rattle.gregorian.specs.declared.Date.{Date}
 use Rattle.utils.specs.declared.OptionalDay.the-variants.{Day, None}
-use Rattle.utils.specs.Weekday.{InYears}
+use Rattle.utils.specs.Inner.{InYears}
 use Rattle.answers.specs.declared.OptionalDate.{OptionalDate}
 use Rattle.answers.specs.Answers.{optionalDate}
 use Rattle.answers.proofs.optional_date.Statement.{statement}

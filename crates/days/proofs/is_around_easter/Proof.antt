@@ -1,7 +1,7 @@
 -- `days::is_around_easter` meets its contract: both ends.
 use mathlib.Core.Path.{_∙_}
 use borrow.Author.Needs.{needs}
-use Rattle.days.specs.Days.{isBetween}
+use Rattle.days.specs.Inner.{isBetween}
 use Rattle.days.proofs.is_around_easter.Statement.{statement}
 use Rattle.days.proofs.is_around_easter.Tie as tie
 

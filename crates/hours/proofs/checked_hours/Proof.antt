@@ -3,14 +3,14 @@ use mathlib.Core.Path.{_≡_, sym, ap, _∙_}
 use mathlib.Core.Bool.{Bool, _&&_}
 use borrow.Author.Tests.{not-true, not-false}
 use borrow.Author.Needs.{needs}
-use Rattle.gregorian.specs.Calendar.{isDate}
+use Rattle.gregorian.specs.Calendar.{isDateOf}
 use Rattle.hours.specs.Calls.{hasTimes}
 use Rattle.hours.proofs.HoursLaws.{error-5, error-7, checked}
 use Rattle.hours.proofs.checked_hours.Statement.{statement}
 use Rattle.hours.proofs.checked_hours.Tie as tie
 
 -- what the tests say of the date, and of the times
-date-is : (c : tie.After-has-times) (b : Bool) → c .before .is-date .result ≡ b → (let t = c .before .before .before .args .hours .date in isDate (t .year) (t .month) (t .day) ≡ b)
+date-is : (c : tie.After-has-times) (b : Bool) → c .before .is-date .result ≡ b → isDateOf (c .before .before .before .args .hours .date) ≡ b
 date-is c b e = sym (c .before .is-date .ensures) ∙ e
 
 times-are : (c : tie.After-has-times) (b : Bool) → (let a = c .before .before .before .args in (c .has-times .result && a .time-in-range) ≡ b → (hasTimes (a .hours) && a .time-in-range) ≡ b)

@@ -1,7 +1,7 @@
 -- `range_calls::previous_trading_day` meets its contract: the day past the checks is that of a date, and an error stays.
 use mathlib.Core.Path.{_≡_, sym, _∙_, subst}
 use borrow.Author.Needs.{needs}
-use Rattle.utils.specs.Weekday.{InYears}
+use Rattle.utils.specs.Inner.{InYears}
 use Rattle.ranges.proofs.StepLaws.{previous-in-years}
 use Rattle.checks.specs.declared.DayResult.{DayResult}
 use Rattle.checks.specs.Checks.{checkedDay}

@@ -1,7 +1,7 @@
 -- `range_calls::trading_day_result` meets its contract: both arms.
 use mathlib.Core.Path.{ap, sym, _∙_, subst}
 use borrow.Author.Needs.{needs}
-use Rattle.utils.specs.Weekday.{InYears}
+use Rattle.utils.specs.Inner.{InYears}
 use Rattle.range_calls.specs.declared.TradingDayResult.{TradingDayResult}
 use Rattle.range_calls.specs.RangeCalls.{tradingDayResult}
 use Rattle.range_calls.proofs.trading_day_result.Statement.{statement}

@@ -1,7 +1,7 @@
 -- `trading_calendar::tc_last_weekday_of_month` meets its contract: the answer is a day of years 1 to 9999, or none.
 use mathlib.Core.Path.{ap, sym, _∙_, subst}
 use borrow.Author.Needs.{needs}
-use Rattle.utils.specs.Weekday.{InYears}
+use Rattle.utils.specs.Inner.{InYears}
 use Rattle.utils.proofs.WeekdayLaws.{last-in-years}
 use Rattle.answers.specs.Answers.{optionalDate}
 use Rattle.trading_calendar.proofs.tc_last_weekday_of_month.Statement.{statement}

@@ -4,7 +4,8 @@ use native.Mathlib.Omega.{arith}
 use borrow.Author.Tests.{lt-leb, le-leb}
 use borrow.Author.Needs.{needs}
 use Rattle.gregorian.proofs.Laws.{number-range}
-use Rattle.japan.specs.Japan.{isWithSubstitute, equinox}
+use Rattle.japan.specs.Japan.{equinox}
+use Rattle.japan.specs.Inner.{isWithSubstitute}
 use Rattle.japan.proofs.JapanLaws.{equinox-date}
 use Rattle.japan.proofs.holidays.is_equinox.Statement.{statement}
 use Rattle.japan.proofs.holidays.is_equinox.Tie as tie

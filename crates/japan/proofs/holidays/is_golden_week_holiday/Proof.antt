@@ -2,7 +2,7 @@
 use mathlib.Core.Bool.{_||_}
 use lib.Dec.{eqb}
 use borrow.Author.Needs.{needs}
-use Rattle.japan.specs.Japan.{isGoldenWeekHoliday}
+use Rattle.japan.specs.Inner.{isGoldenWeekHoliday}
 use Rattle.japan.proofs.holidays.is_golden_week_holiday.Statement.{statement}
 use Rattle.japan.proofs.holidays.is_golden_week_holiday.Tie as tie
 

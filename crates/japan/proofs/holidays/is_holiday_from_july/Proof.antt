@@ -3,7 +3,7 @@ use mathlib.Core.Path.{_∙_}
 use mathlib.Core.Bool.{_||_}
 use lib.Dec.{eqb}
 use borrow.Author.Needs.{needs}
-use Rattle.japan.specs.Japan.{isHolidayFromJuly}
+use Rattle.japan.specs.Inner.{isHolidayFromJuly}
 use Rattle.japan.proofs.JapanLaws.{mondays-apart}
 use Rattle.japan.proofs.holidays.is_holiday_from_july.Statement.{statement}
 use Rattle.japan.proofs.holidays.is_holiday_from_july.Tie as tie

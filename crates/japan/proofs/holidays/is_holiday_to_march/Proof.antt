@@ -1,7 +1,7 @@
 -- `japan::holidays::is_holiday_to_march` meets its contract: the tests, one by one.
 use mathlib.Core.Bool.{_||_}
 use borrow.Author.Needs.{needs}
-use Rattle.japan.specs.Japan.{isHolidayToMarch}
+use Rattle.japan.specs.Inner.{isHolidayToMarch}
 use Rattle.japan.proofs.holidays.is_holiday_to_march.Statement.{statement}
 use Rattle.japan.proofs.holidays.is_holiday_to_march.Tie as tie
 

@@ -5,7 +5,8 @@ use native.Mathlib.Omega.{arith}
 use borrow.Author.Needs.{needs}
 use Rattle.utils.specs.declared.OptionalDay.{OptionalDay}
 use Rattle.utils.specs.declared.OptionalDay.the-variants.{Day}
-use Rattle.utils.specs.Weekday.{InYears, mapDay}
+use Rattle.utils.specs.Weekday.{mapDay}
+use Rattle.utils.specs.Inner.{InYears}
 use Rattle.utils.proofs.WeekdayLaws.{nth-in-years}
 use Rattle.days.specs.Days.{isDay}
 use Rattle.markets.specs.Us.{thanksgivingDay}

@@ -9,7 +9,7 @@ use borrow.Fn.PlainCycle.{Measures, is, falls, and}
 use borrow.Author.Needs.{needs}
 use denote.Ref.{now}
 use Rattle.buffers.proofs.BufferLaws.{bytes-fit, rest-starts, more-fits, all-written}
-use Rattle.sheet_lines.specs.Sheet.{sheetLine, sheetFrom}
+use Rattle.sheet_lines.specs.Inner.{sheetLine, sheetFrom}
 use Rattle.sheet_lines.proofs.LineLaws.{sheet-from, sheet-last}
 use Rattle.sheet_lines.proofs.lines.write_days.Reads as write-days
 use Rattle.sheet_lines.proofs.lines.write_field.Reads as write-field

@@ -7,7 +7,8 @@ use native.Mathlib.Omega.{arith}
 use borrow.Author.Needs.{needs}
 use denote.Ref.{now}
 use Rattle.buffers.specs.Buffers.{overwrite}
-use Rattle.sheet_lines.specs.Sheet.{sheetLines, sheetLine}
+use Rattle.sheet_lines.specs.Sheet.{sheetLines}
+use Rattle.sheet_lines.specs.Inner.{sheetLine}
 use Rattle.sheet_lines.proofs.lines.write_field.Statement.{statement}
 use Rattle.sheet_lines.proofs.lines.write_field.Tie as tie
 
