@@ -1,5 +1,5 @@
 pub mod Dates
-pub mod Traversals
-pub mod Counts
-pub mod Months
-pub mod Theorem
+pub mod NeighbourCalls
+pub mod CountCalls
+pub mod MonthCalls
+pub mod CallsAgree

@@ -2,7 +2,7 @@
 // to 2030. The comparison with the Rust, whose markets answer in every year, and the stored holidays of other years ask it.
 ghost use mathlib.Core.Path.{_≡_};
 ghost use Rattle.utils.specs.Inner.{InYears};
-ghost use Rattle.all_years.specs.Answers.{knownDay, dayAnswer};
+ghost use Rattle.all_years.specs.AllYears.{knownDay, dayAnswer};
 use utils::OptionalDay;
 
 // Where there is no such market or no such date, every field is false.

@@ -1,7 +1,7 @@
 // The calls of src/calendar.rs of the Rust on a market and a date, on numbers: the code, and year, month and day. Those about ranges
 // of days are in the crate range_calls.
 ghost use mathlib.Core.Path.{_≡_};
-ghost use Rattle.calendar.specs.Calls.{isTradingDayResult, isHolidayResult, tradingHoursResult, isOpenResult};
+ghost use Rattle.calendar.specs.CalendarCalls.{isTradingDayResult, isHolidayResult, tradingHoursResult, isOpenResult};
 use checks::DayResult;
 use checks::checked_day;
 use checks::is_time;

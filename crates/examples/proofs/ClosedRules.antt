@@ -13,14 +13,14 @@ use Rattle.gregorian.proofs.Tests.{and-left, and-right}
 use Rattle.gregorian.proofs.Laws.{is-date, date-of-number}
 use Rattle.utils.specs.declared.OptionalDay.{OptionalDay}
 use Rattle.utils.specs.declared.OptionalDay.the-variants.{Day, None}
-use Rattle.days.specs.Days.{contains}
+use Rattle.rule_days.specs.Days.{contains}
 use Rattle.markets.specs.Markets.{holidays, isWeekend, isHoliday, isTradingDay}
 use Rattle.markets.specs.Years.{isSupported, lastDayOf}
 use Rattle.ranges.specs.Ranges.{daysFrom, found, find, nextTradingDay}
 use Rattle.ranges.proofs.Lists.{from-split}
-use Rattle.longest_run.specs.MarketAgreement.{longestRun}
-use Rattle.longest_run.proofs.ClosedForms.{closedHolidays, closed-holidays}
-use Rattle.longest_run.proofs.Years.{before, in-year}
+use Rattle.market_runs.specs.MarketAgreement.{longestRun}
+use Rattle.market_runs.proofs.ClosedForms.{closedHolidays, closed-holidays}
+use Rattle.market_runs.proofs.YearFlags.{before, in-year}
 use Rattle.range_calls.specs.declared.TradingDayResult.{TradingDayResult}
 use Rattle.range_calls.specs.RangeCalls.{distanceOf, tradingDay, tradingDayResult}
 use Rattle.answers.specs.declared.OptionalDate.{OptionalDate}

@@ -1,2 +1,2 @@
 pub mod ClosedRules
-pub mod Table
+pub mod Examples

@@ -8,7 +8,7 @@ use Rattle.gregorian.specs.Calendar.{date}
 use Rattle.utils.specs.Easter.{calculateEaster}
 use Rattle.markets.specs.Markets.{holidaysByCode}
 use Rattle.ranges.specs.Ranges.{daysFrom, Every}
-use Rattle.calendar.specs.Calls.{isTradingDayResult, isHolidayResult}
+use Rattle.calendar.specs.CalendarCalls.{isTradingDayResult, isHolidayResult}
 use Rattle.range_calls.specs.RangeCalls.{nextTradingDayResult, countTradingDaysResult}
 use Rattle.answers.specs.declared.OptionalDate.{OptionalDate}
 use Rattle.answers.specs.declared.BoolAnswer.{BoolAnswer}

@@ -10,7 +10,7 @@ use native.Mathlib.Decide.{decLt}
 use Rattle.gregorian.specs.Calendar.{total, leap, leapDay, yearLength, monthLengths, monthLength, dayNumber, lastYear, lastDay, isDate, dateOf, date}
 use Rattle.gregorian.specs.Inner.{Exists, Within}
 use Rattle.gregorian.proofs.Total.{total-next, total-mono, place-eq, upto}
-use Rattle.gregorian.proofs.Years.{years, years-is}
+use Rattle.gregorian.proofs.YearDays.{years, years-is}
 use Rattle.gregorian.proofs.Laws.{is-date, unique, date-exists, number-of-date, number-high, year-of-months, day-of-year}
 
 leap-is : (y : ℕ) (r b : Bool) → r ≡ leap y → r ≡ b → leapDay y ≡ cond b 1 0

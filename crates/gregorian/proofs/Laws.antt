@@ -13,7 +13,7 @@ use Rattle.gregorian.specs.Calendar.{leap, leapDay, total, yearLength, m
 use Rattle.gregorian.specs.CalendarClaims.{DatesAreNumbered}
 use Rattle.gregorian.specs.Inner.{Exists, IsDate}
 use Rattle.gregorian.proofs.Total.{total-none, total-next, total-mono, place-lt, place-eq, upto}
-use Rattle.gregorian.proofs.Years.{years-is}
+use Rattle.gregorian.proofs.YearDays.{years-is}
 use Rattle.gregorian.proofs.Tests.{and-left, and-right}
 
 abbrev pub DateExists : Date → Type 0

@@ -1,6 +1,6 @@
 pub mod Tests
 pub mod Total
-pub mod Years
+pub mod YearDays
 pub mod Laws
 pub mod Weekdays
 pub mod Formulas

@@ -9,7 +9,7 @@ use native.Mathlib.Numerals.{add-one}
 use borrow.Author.Tests.{eqb-true, eqb-false}
 use Rattle.gregorian.specs.Calendar.{dayNumber, total, weekdayOf}
 use Rattle.gregorian.specs.CalendarClaims.{nextWeekday, Weekdays, OnlyWeekdays}
-use Rattle.gregorian.proofs.Years.{years-is}
+use Rattle.gregorian.proofs.YearDays.{years-is}
 
 pub weekday-range : (n : ℕ) → weekdayOf n ≤ 6
 unfolding weekdayOf

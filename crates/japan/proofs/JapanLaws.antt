@@ -17,11 +17,11 @@ use Rattle.utils.specs.declared.OptionalDay.{OptionalDay}
 use Rattle.utils.specs.declared.OptionalDay.the-variants.{Day, None}
 use Rattle.utils.specs.Weekday.{nthWeekdayOfMonth}
 use Rattle.utils.proofs.WeekdayLaws.{when-day, first-near, nth-weekday}
-use Rattle.days.specs.Days.{contains, insert, insertIf, insertDay, isDay}
-use Rattle.days.specs.Inner.{isBetween, everyYearHas, everyBetween}
+use Rattle.rule_days.specs.Days.{contains, insert, insertIf, insertDay, isDay}
+use Rattle.rule_days.specs.Inner.{isBetween, everyYearHas, everyBetween}
 use Rattle.japan.specs.Japan.{substituteDay, addWithSubstitute, addDayWithSubstitute, vernalDays, autumnalDays, equinox, calculateAutumnalEquinox, applyGoldenWeekRules, getJapanHolidays}
 use Rattle.japan.specs.Inner.{isWithSubstitute, isDayWithSubstitute, isBridgeDay, isHolidayToMarch, isGoldenWeekHoliday, isHolidayFromJuly, isJapanHoliday}
-use Rattle.days.proofs.DayLaws.{or-assoc, or-swap, or-false, contains-none, contains-insert, contains-if, not-between, every-year-date}
+use Rattle.rule_days.proofs.DayLaws.{or-assoc, or-swap, or-false, contains-none, contains-insert, contains-if, not-between, every-year-date}
 
 -- The equinoxes: what is computed of a table holds of each of its days.
 between : (low high : ℕ) (list : List ℕ) (k i : ℕ) → everyBetween low high list k ≡ true → i < k → (low ≤ getD list i 0) × (getD list i 0 ≤ high)

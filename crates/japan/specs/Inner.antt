@@ -7,7 +7,7 @@ use Rattle.gregorian.specs.Calendar.{monday, tuesday, thursday, sunday, dayNumb
 use Rattle.utils.specs.declared.OptionalDay.{OptionalDay}
 use Rattle.utils.specs.declared.OptionalDay.the-variants.{Day, None}
 use Rattle.utils.specs.Weekday.{nthWeekdayOfMonth}
-use Rattle.days.specs.Days.{isDay}
+use Rattle.rule_days.specs.Days.{isDay}
 use Rattle.japan.specs.Japan.{calculateVernalEquinox, calculateAutumnalEquinox}
 
 -- [tse-substitute]: n is the date or, if that is a Sunday, the day after it

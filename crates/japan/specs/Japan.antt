@@ -8,7 +8,7 @@ use Rattle.gregorian.specs.Calendar.{monday, tuesday, thursday, friday, sunday,
 use Rattle.utils.specs.declared.OptionalDay.{OptionalDay}
 use Rattle.utils.specs.declared.OptionalDay.the-variants.{Day, None}
 use Rattle.utils.specs.Weekday.{nthWeekdayOfMonth}
-use Rattle.days.specs.Days.{contains, insert, insertIf, insertDay}
+use Rattle.rule_days.specs.Days.{contains, insert, insertIf, insertDay}
 
 -- The first day from `substitute` on that is no holiday yet, of as many as are `left`; None if there is none. The Rust's loop,
 -- `while holidays.contains(&substitute) && attempts < 7 { substitute += 1; attempts += 1 }`, with 7 - attempts as `left`, and what

@@ -13,9 +13,9 @@ use Rattle.utils.specs.declared.OptionalDay.the-variants.{None}
 use Rattle.utils.specs.Weekday.{nthWeekdayOfMonth}
 use Rattle.utils.proofs.WeekdayLaws.{last-is}
 use Rattle.utils.specs.Easter.{calculateGoodFriday}
-use Rattle.days.specs.Days.{contains, isDay, matchWeekend, adjustForWeekend}
+use Rattle.rule_days.specs.Days.{contains, isDay, matchWeekend, adjustForWeekend}
 use Rattle.markets.specs.Canada.{familyDay, victoriaDay, boxingDay, getCanadaHolidays}
-use Rattle.days.proofs.DayLaws.{or-assoc, or-swap, contains-none, contains-insert, contains-day, day-low, not-nth}
+use Rattle.rule_days.proofs.DayLaws.{or-assoc, or-swap, contains-none, contains-insert, contains-day, day-low, not-nth}
 
 -- The `match` on both weekdays needs only that of Boxing Day: (_, Sat) and (_, Sun) after the first two arms are never taken.
 match-both : (n : ℕ) (s t : Bool) → eqb (weekdayOf (n + 1)) saturday ≡ s → eqb (weekdayOf (n + 1)) sunday ≡ t → cond (eqb (weekdayOf n) friday && s) (n + 1 + 2) (cond (eqb (weekdayOf n) saturday && t) (n + 1 + 2) (cond s (n + 1 + 2) (cond t (n + 1 + 1) (n + 1)))) ≡ cond s (n + 1 + 2) (cond t (n + 1 + 2) (n + 1))

@@ -12,10 +12,10 @@ use borrow.Author.Tests.{lt-ltb, le-ltb, ltb-true, lt-leb, le-leb}
 use Rattle.gregorian.specs.Calendar.{lastYear, lastDay, dateOf}
 use Rattle.gregorian.proofs.Laws.{is-date, date-of-is}
 use Rattle.gregorian.proofs.Total.{upto}
-use Rattle.days.specs.Days.{contains}
+use Rattle.rule_days.specs.Days.{contains}
 use Rattle.markets.specs.Us.{getUsHolidays}
 use Rattle.markets.specs.Markets.{holidaysByCode, isMarket, holidays, isHoliday}
-use Rattle.days.proofs.DayLaws.{contains-none}
+use Rattle.rule_days.proofs.DayLaws.{contains-none}
 
 -- ---- the codes
 

@@ -12,11 +12,11 @@ use Rattle.gregorian.proofs.Laws.{days-on}
 use Rattle.gregorian.proofs.Weekdays.{weekday-after}
 use Rattle.utils.specs.Weekday.{nthWeekdayOfMonth, lastWeekdayOfMonth}
 use Rattle.utils.specs.Easter.{calculateGoodFriday, calculateEasterMonday}
-use Rattle.days.specs.Days.{contains, insert, isDay, adjustForWeekend}
-use Rattle.days.specs.Inner.{isBetween}
+use Rattle.rule_days.specs.Days.{contains, insert, isDay, adjustForWeekend}
+use Rattle.rule_days.specs.Inner.{isBetween}
 use Rattle.markets.specs.Uk.{addBoxingDay, getUkHolidays}
 use Rattle.markets.specs.Inner.{isOneOfTwo, isChristmasOrBoxingDay}
-use Rattle.days.proofs.DayLaws.{or-assoc, contains-none, contains-insert, contains-day, not-between, on-key, on-weekday}
+use Rattle.rule_days.proofs.DayLaws.{or-assoc, contains-none, contains-insert, contains-day, not-between, on-key, on-weekday}
 
 -- The arms of the code, one of a weekday k, and the last.
 pub christmas-on : (k y n d w : ℕ) → w ≡ k → w ≡ weekdayOf d → d ≡ dayNumber y 12 25 → isOneOfTwo n d k ≡ isChristmasOrBoxingDay y n

@@ -8,7 +8,7 @@ use Rattle.utils.specs.declared.OptionalDay.{OptionalDay}
 use Rattle.utils.specs.declared.OptionalDay.the-variants.{None}
 use Rattle.utils.specs.Weekday.{nthWeekdayOfMonth, lastUpTo}
 use Rattle.utils.specs.Easter.{calculateGoodFriday}
-use Rattle.days.specs.Days.{insert, insertDay, adjustForWeekend}
+use Rattle.rule_days.specs.Days.{insert, insertDay, adjustForWeekend}
 
 -- `if year >= 2008 { .. }`
 abbrev pub familyDay : ℕ → OptionalDay

@@ -6,7 +6,7 @@ use mathlib.Core.List.{List, [], _∷_}
 use lib.Dec.{ltb, eqb}
 use lib.ListN.{length, getD}
 use Rattle.gregorian.specs.Calendar.{saturday, sunday, dateOf, weekdayOf}
-use Rattle.days.specs.Days.{contains}
+use Rattle.rule_days.specs.Days.{contains}
 use Rattle.markets.specs.Us.{getUsHolidays}
 use Rattle.markets.specs.Uk.{getUkHolidays}
 use Rattle.markets.specs.Canada.{getCanadaHolidays}

@@ -6,7 +6,7 @@ use lib.Dec.{eqb}
 use Rattle.gregorian.specs.Calendar.{monday, friday, saturday, sunday, dayNumber, weekdayOf}
 use Rattle.utils.specs.Weekday.{nthWeekdayOfMonth, lastWeekdayOfMonth}
 use Rattle.utils.specs.Easter.{calculateGoodFriday, calculateEasterMonday}
-use Rattle.days.specs.Days.{insert, insertDay, adjustForWeekend}
+use Rattle.rule_days.specs.Days.{insert, insertDay, adjustForWeekend}
 
 -- add_boxing_day: the `match` on the weekday of Christmas Day
 unfoldable pub addBoxingDay : List ℕ → ℕ → List ℕ

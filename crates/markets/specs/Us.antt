@@ -6,7 +6,7 @@ use Rattle.gregorian.specs.Calendar.{monday, thursday, dayNumber}
 use Rattle.utils.specs.declared.OptionalDay.{OptionalDay}
 use Rattle.utils.specs.Weekday.{nthWeekdayOfMonth, lastWeekdayOfMonth}
 use Rattle.utils.specs.Easter.{calculateGoodFriday}
-use Rattle.days.specs.Days.{insert, insertIf, insertDay, matchWeekend, adjustForWeekend}
+use Rattle.rule_days.specs.Days.{insert, insertIf, insertDay, matchWeekend, adjustForWeekend}
 
 -- the functions of these names in the Rust
 abbrev pub newYearsDay : ℕ → ℕ

@@ -10,7 +10,7 @@ use native.Mathlib.Omega.{arith}
 use Rattle.request.specs.declared.Request.{Request}
 use Rattle.request.specs.Request.{readRequest}
 use Rattle.request.proofs.Form.{reads-the-form}
-use Rattle.sheet.specs.Call.{sheetOfRequest}
+use Rattle.sheet.specs.SheetCall.{sheetOfRequest}
 use Rattle.month_sheet.specs.Printed.{printedResult, printed, ReadOf, FirstBytesDecide}
 
 -- They are the whole input, or already too long for a text of the form.

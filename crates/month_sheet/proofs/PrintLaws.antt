@@ -16,8 +16,8 @@ use Rattle.answers.specs.declared.counts.CountAnswer.{CountAnswer}
 use Rattle.answers.specs.Answers.{countAnswer}
 use Rattle.request.specs.declared.Request.{Request}
 use Rattle.request.specs.Request.{readRequest}
-use Rattle.sheet.specs.Call.{SheetResult, sheetOfRequest, sheetOf, sheetWritten, sheetBuffer, monthSheetResult, monthSheetBuffer}
-use Rattle.sheet.proofs.CallLaws.{sheet-asked, sheet-fits}
+use Rattle.sheet.specs.SheetCall.{SheetResult, sheetOfRequest, sheetOf, sheetWritten, sheetBuffer, monthSheetResult, monthSheetBuffer}
+use Rattle.sheet.proofs.SheetCallLaws.{sheet-asked, sheet-fits}
 use Rattle.month_sheet.specs.Printed.{refusedLine, printedResult, printed}
 
 -- ---- how long it is

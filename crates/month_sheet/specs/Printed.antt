@@ -6,7 +6,7 @@ use lib.ListN.{length, take}
 use Rattle.error.specs.Errors.{errorNumber}
 use Rattle.decimal.specs.Decimal.{decimal}
 use Rattle.request.specs.Text.{ascii}
-use Rattle.sheet.specs.Call.{SheetResult, sheetOf}
+use Rattle.sheet.specs.SheetCall.{SheetResult, sheetOf}
 
 -- the line for an error
 abbrev pub refusedLine : ℕ → List ℕ

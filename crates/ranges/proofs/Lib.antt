@@ -7,5 +7,5 @@ pub mod StepLaws
 pub mod Traversals
 pub mod Counts
 pub mod Months
-pub mod Theorem
+pub mod Agreement
 pub mod Runs

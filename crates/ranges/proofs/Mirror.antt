@@ -7,7 +7,7 @@ use mathlib.Core.Logic.{⊎-elim}
 use native.Mathlib.Omega.{arith}
 use Rattle.utils.specs.Weekday.{mapDay}
 use Rattle.ranges.specs.Ranges.{days, find, nextTradingDay, previousTradingDay}
-use Rattle.ranges.specs.Steps.{NextCall, PreviousCall, ShortRuns}
+use Rattle.ranges.specs.Steps.{NextStep, PreviousStep, ShortRuns}
 use Rattle.ranges.proofs.Lists.{order, between-length, days-mirror}
 use Rattle.ranges.proofs.Search.{find-map, is-first}
 use Rattle.ranges.proofs.Neighbours.{next-none, previous-none}
@@ -36,7 +36,7 @@ module _ (trades : ℕ → Bool) (c : ℕ) where
         (order n first)
 
     -- A next call in the mirror is a previous call.
-    pub mirror-call : (most n m : ℕ) → n ≤ c → NextCall mirrored most (c - first) (c - n) m → PreviousCall trades most first n (c - m)
+    pub mirror-call : (most n m : ℕ) → n ≤ c → NextStep mirrored most (c - first) (c - n) m → PreviousStep trades most first n (c - m)
     mirror-call most n m h s =
         let up = s .2 .ordered in
         let to = is-first mirrored (suc (c - n)) m (c - first) (s .0) .0 in

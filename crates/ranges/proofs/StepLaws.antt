@@ -13,7 +13,7 @@ use Rattle.utils.specs.declared.OptionalDay.the-variants.{Day, None}
 use Rattle.utils.specs.Weekday.{mapDay}
 use Rattle.utils.specs.Inner.{InYears}
 use Rattle.ranges.specs.Ranges.{daysBetween, nextTradingDay, previousTradingDay}
-use Rattle.ranges.specs.Steps.{NextCall, PreviousCall, ShortRuns, ShortSteps, StepsAreShort, StepsUndo}
+use Rattle.ranges.specs.Steps.{NextStep, PreviousStep, ShortRuns, ShortSteps, StepsAreShort, StepsUndo}
 use Rattle.ranges.specs.Traversals.{NonTradingBetween}
 use Rattle.ranges.proofs.Lists.{order, clash, between-length}
 use Rattle.ranges.proofs.Search.{no-day, same-day, finds, is-first, finds-one}
@@ -103,12 +103,12 @@ previous-in-years trades first n o h =
     in-years (previousTradingDay trades first n) (λ m e. let r = previous-is trades first n m o e in (omega (arith, r .0), omega (arith, r .1 .ordered)))
 
 -- A call that may look further answers the same.
-pub next-further : (trades : ℕ → Bool) (most high last n m : ℕ) → high ≤ last → NextCall trades most high n m → NextCall trades most last n m
+pub next-further : (trades : ℕ → Bool) (most high last n m : ℕ) → high ≤ last → NextStep trades most high n m → NextStep trades most last n m
 next-further trades most high last n m h c =
     let r = next-is trades high n m (c .0) in
     (next-by trades last n m (omega (arith, r .0)) (r .1), c .1, c .2)
 
-pub previous-further : (trades : ℕ → Bool) (most first low n m : ℕ) → 1 ≤ first → first ≤ low → PreviousCall trades most low n m → PreviousCall trades most first n m
+pub previous-further : (trades : ℕ → Bool) (most first low n m : ℕ) → 1 ≤ first → first ≤ low → PreviousStep trades most low n m → PreviousStep trades most first n m
 previous-further trades most first low n m o h c =
     let r = previous-is trades low n m (omega arith) (c .0) in
     (previous-by trades first n m o (omega (arith, r .0)) (r .1), c .1, c .2)
@@ -140,13 +140,13 @@ module _ (trades : ℕ → Bool) (most first last : ℕ) (runs : ShortRuns trade
         non-trading = b .non-trading;
       }
 
-  pub next-is-short : (n m : ℕ) → first ≤ suc n → nextTradingDay trades last n ≡ Day m → NextCall trades most last n m
+  pub next-is-short : (n m : ℕ) → first ≤ suc n → nextTradingDay trades last n ≡ Day m → NextStep trades most last n m
   next-is-short n m l e =
       let r = next-is trades last n m e in
       (e, r .1 .trading, few m n m l (omega (arith, r .0)) (r .1))
 
   module _ (o : 1 ≤ first) where
-    previous-is-short : (n m : ℕ) → n ≤ suc last → previousTradingDay trades first n ≡ Day m → PreviousCall trades most first n m
+    previous-is-short : (n m : ℕ) → n ≤ suc last → previousTradingDay trades first n ≡ Day m → PreviousStep trades most first n m
     previous-is-short n m h e =
         let r = previous-is trades first n m o e in
         (e, r .1 .trading, few m m n (omega (arith, r .0)) h (r .1))

@@ -11,7 +11,7 @@ use borrow.Author.Tests.{leb-true, le-leb, lt-leb}
 use Rattle.utils.specs.declared.OptionalDay.the-variants.{Day, None}
 use Rattle.utils.specs.Weekday.{mapDay}
 use Rattle.ranges.specs.Ranges.{tradingDays, nextTradingDay, previousTradingDay}
-use Rattle.ranges.specs.Steps.{NextCall, PreviousCall, ShortRuns}
+use Rattle.ranges.specs.Steps.{NextStep, PreviousStep, ShortRuns}
 use Rattle.ranges.specs.Traversals.{TraversalTo, EndsOutside, Traversal, TraversalOf, EndsOutsideOrNone}
 use Rattle.ranges.proofs.Lists.{clash, order, all-fail, first-passes, trading-mirror}
 use Rattle.ranges.proofs.Search.{none-or-day, none-trades}
@@ -76,7 +76,7 @@ every-call-answers C D NoAnswer p P h e n l k t =
 
 module _ (trades : ℕ → Bool) (most first last : ℕ) (runs : ShortRuns trades most first last) (b : ℕ) (z : b ≤ last) where
   abbrev Forward : ℕ → List ℕ → Type 0
-  Forward = TraversalTo (NextCall trades most last) (λ m. leb m b) (EndsOutsideOrNone (NextCall trades most last) (λ n. nextTradingDay trades last n ≡ None) (λ m. leb m b))
+  Forward = TraversalTo (NextStep trades most last) (λ m. leb m b) (EndsOutsideOrNone (NextStep trades most last) (λ n. nextTradingDay trades last n ≡ None) (λ m. leb m b))
 
   -- The answers from n on up to b are the trading days after n up to b. At most k days are left.
   forward-from : (k n : ℕ) → first ≤ suc n → n ≤ b → b < n + k → Forward n (tradingDays trades (suc n) b)
@@ -114,10 +114,10 @@ module _ (trades : ℕ → Bool) (most first last : ℕ) (o : 1 ≤ first) (runs
 
   -- the calls, and how the traversal ends, in the mirror and out of it
   abbrev In : ℕ → ℕ → Type 0
-  In = NextCall (mirrored trades c) most (c - first)
+  In = NextStep (mirrored trades c) most (c - first)
 
   abbrev Out : ℕ → ℕ → Type 0
-  Out = PreviousCall trades most first
+  Out = PreviousStep trades most first
 
   abbrev InEnds : ℕ → Type 0
   InEnds = EndsOutsideOrNone In (λ n. nextTradingDay (mirrored trades c) (c - first) n ≡ None) (λ m. leb m (c - a))

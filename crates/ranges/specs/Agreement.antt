@@ -9,7 +9,7 @@ use lib.ListN.{length}
 use Rattle.utils.specs.declared.OptionalDay.the-variants.{None}
 use Rattle.ranges.specs.Ranges.{filter, tradingDays, nextTradingDay, previousTradingDay, countTradingDays, sumOf, joined}
 use Rattle.ranges.specs.Traversals.{TraversalTo, EndsOutside, TraversalOf, EndsOutsideOrNone}
-use Rattle.ranges.specs.Steps.{NextCall, PreviousCall, ShortRuns}
+use Rattle.ranges.specs.Steps.{NextStep, PreviousStep, ShortRuns}
 
 -- ---- parts and months
 
@@ -51,10 +51,10 @@ limitTo a b = filter (λ n. leb a n && leb n b)
 -- [agreement-months]. All days are those from `first`, which is at least 1, to `last`. Both starts of a traversal are stated: on the day beside the range, and,
 -- for where that is no day of these, on the first or the last trading day of the range. `NextEnds` and `PreviousEnds` say how it ends.
 pub record AgreementTo (trades : ℕ → Bool) (most first last a b : ℕ) (NextEnds PreviousEnds : ℕ → Type 0) : Type 0 where
-  pub forward : TraversalTo (NextCall trades most last) (λ m. leb m b) NextEnds (a - 1) (tradingDays trades a b)
-  pub forward-of : TraversalOf (NextCall trades most last) (λ m. leb m b) NextEnds (tradingDays trades a b)
-  pub backward : TraversalTo (PreviousCall trades most first) (λ m. leb a m) PreviousEnds (suc b) (reverse (tradingDays trades a b))
-  pub backward-of : TraversalOf (PreviousCall trades most first) (λ m. leb a m) PreviousEnds (reverse (tradingDays trades a b))
+  pub forward : TraversalTo (NextStep trades most last) (λ m. leb m b) NextEnds (a - 1) (tradingDays trades a b)
+  pub forward-of : TraversalOf (NextStep trades most last) (λ m. leb m b) NextEnds (tradingDays trades a b)
+  pub backward : TraversalTo (PreviousStep trades most first) (λ m. leb a m) PreviousEnds (suc b) (reverse (tradingDays trades a b))
+  pub backward-of : TraversalOf (PreviousStep trades most first) (λ m. leb a m) PreviousEnds (reverse (tradingDays trades a b))
   pub count : countTradingDays trades a b ≡ length (tradingDays trades a b)
   pub parts-add-up : (splits : List ℕ) → Splits a splits b → sumOf (countOf trades) (parts a splits b) ≡ countTradingDays trades a b
   pub empty-part : (c : ℕ) → a ≤ c → countTradingDays trades c (c - 1) ≡ 0
@@ -63,13 +63,13 @@ pub record AgreementTo (trades : ℕ → Bool) (most first last a b : ℕ) (Next
 -- A traversal may also end by none, where no trading day is left up to `last` or down to `first`.
 abbrev pub AgreementToEnds : (ℕ → Bool) → ℕ → ℕ → ℕ → ℕ → ℕ → Type 0
 AgreementToEnds trades most first last a b =
-    AgreementTo trades most first last a b (EndsOutsideOrNone (NextCall trades most last) (λ n. nextTradingDay trades last n ≡ None) (λ m. leb m b))
-    (EndsOutsideOrNone (PreviousCall trades most first) (λ n. previousTradingDay trades first n ≡ None) (λ m. leb a m))
+    AgreementTo trades most first last a b (EndsOutsideOrNone (NextStep trades most last) (λ n. nextTradingDay trades last n ≡ None) (λ m. leb m b))
+    (EndsOutsideOrNone (PreviousStep trades most first) (λ n. previousTradingDay trades first n ≡ None) (λ m. leb a m))
 
 -- The same where every call answers: only an answer outside the range ends a traversal.
 abbrev pub Agreement : (ℕ → Bool) → ℕ → ℕ → ℕ → ℕ → ℕ → Type 0
 Agreement trades most first last a b =
-    AgreementTo trades most first last a b (EndsOutside (NextCall trades most last) (λ m. leb m b)) (EndsOutside (PreviousCall trades most first) (λ m. leb a m))
+    AgreementTo trades most first last a b (EndsOutside (NextStep trades most last) (λ m. leb m b)) (EndsOutside (PreviousStep trades most first) (λ m. leb a m))
 
 -- the claim: where runs are short, for every range within `first` to `last`; a traversal may end by none
 abbrev pub Agree : Type 0

@@ -8,12 +8,12 @@ use Rattle.ranges.specs.Ranges.{nextTradingDay, previousTradingDay}
 use Rattle.ranges.specs.Traversals.{NonTradingBetween}
 
 -- the next of n is m, which trades, and at most `most` days are passed, none of which trades
-abbrev pub NextCall : (ℕ → Bool) → ℕ → ℕ → ℕ → ℕ → Type 0
-NextCall trades most last n m = (nextTradingDay trades last n ≡ Day m) × (trades m ≡ true) × NonTradingBetween trades most n m
+abbrev pub NextStep : (ℕ → Bool) → ℕ → ℕ → ℕ → ℕ → Type 0
+NextStep trades most last n m = (nextTradingDay trades last n ≡ Day m) × (trades m ≡ true) × NonTradingBetween trades most n m
 
 -- the previous of n likewise
-abbrev pub PreviousCall : (ℕ → Bool) → ℕ → ℕ → ℕ → ℕ → Type 0
-PreviousCall trades most first n m = (previousTradingDay trades first n ≡ Day m) × (trades m ≡ true) × NonTradingBetween trades most m n
+abbrev pub PreviousStep : (ℕ → Bool) → ℕ → ℕ → ℕ → ℕ → Type 0
+PreviousStep trades most first n m = (previousTradingDay trades first n ≡ Day m) × (trades m ≡ true) × NonTradingBetween trades most m n
 
 -- No run of non-trading days from `low` to `high` is longer than `most`: of any `most + 1` days in a row at least one trades.
 abbrev pub ShortRuns : (ℕ → Bool) → ℕ → ℕ → ℕ → Type 0
@@ -21,10 +21,10 @@ ShortRuns trades most low high = (n : ℕ) → low ≤ n → n + most ≤ high �
 
 -- Every step passes at most `most` days, none of which trades; and there is one wherever `most + 1` days are there to look at.
 pub record ShortSteps (trades : ℕ → Bool) (most first last : ℕ) : Type 0 where
-  pub next : (n m : ℕ) → first ≤ suc n → nextTradingDay trades last n ≡ Day m → NextCall trades most last n m
-  pub previous : (n m : ℕ) → n ≤ suc last → previousTradingDay trades first n ≡ Day m → PreviousCall trades most first n m
-  pub next-answers : (n : ℕ) → first ≤ suc n → n + suc most ≤ last → (m : ℕ) × NextCall trades most last n m
-  pub previous-answers : (n : ℕ) → first + suc most ≤ n → n ≤ suc last → (m : ℕ) × PreviousCall trades most first n m
+  pub next : (n m : ℕ) → first ≤ suc n → nextTradingDay trades last n ≡ Day m → NextStep trades most last n m
+  pub previous : (n m : ℕ) → n ≤ suc last → previousTradingDay trades first n ≡ Day m → PreviousStep trades most first n m
+  pub next-answers : (n : ℕ) → first ≤ suc n → n + suc most ≤ last → (m : ℕ) × NextStep trades most last n m
+  pub previous-answers : (n : ℕ) → first + suc most ≤ n → n ≤ suc last → (m : ℕ) × PreviousStep trades most first n m
 
 -- the claim: that is so where runs are short
 abbrev pub StepsAreShort : Type 0

@@ -2,7 +2,7 @@
 ghost use mathlib.Core.Path.{_≡_};
 ghost use mathlib.Core.Bool.{true};
 ghost use Prim.Native.Nat.{_<_};
-ghost use Rattle.replay.specs.Decimal.{appended};
+ghost use Rattle.replay.specs.Numbers.{appended};
 use gregorian::Date;
 
 // How many numbers a list holds at most. A row with more on one side of its `=` is malformed.

@@ -11,7 +11,7 @@ use borrow.Author.Tests.{lt-ltb, le-ltb, le-leb, lt-leb}
 use Rattle.gregorian.specs.declared.Date.{Date}
 use Rattle.gregorian.proofs.Tests.{and-true, and-false}
 use Rattle.gregorian.proofs.Total.{upto}
-use Rattle.days.proofs.DayLaws.{or-false}
+use Rattle.rule_days.proofs.DayLaws.{or-false}
 use Rattle.markets.specs.Markets.{holidaysByCode}
 use Rattle.schedule.specs.declared.TradingHours.{TradingHours}
 use Rattle.schedule.specs.Schedule.{contains, isOpenAt}

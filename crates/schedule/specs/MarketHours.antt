@@ -10,7 +10,7 @@ use Rattle.gregorian.specs.declared.Date.{Date}
 use Rattle.gregorian.specs.Calendar.{number}
 use Rattle.utils.specs.declared.OptionalDay.{OptionalDay}
 use Rattle.utils.specs.Weekday.{mapDay}
-use Rattle.days.specs.Days.{isDay}
+use Rattle.rule_days.specs.Days.{isDay}
 use Rattle.markets.specs.Markets.{holidaysByCode, isWeekend}
 use Rattle.markets.specs.Us.{thanksgivingDay}
 use Rattle.schedule.specs.declared.OptionalSession.{OptionalSession}

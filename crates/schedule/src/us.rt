@@ -2,7 +2,7 @@
 ghost use mathlib.Core.Path.{_≡_};
 ghost use mathlib.Core.Bool.{true};
 ghost use Rattle.gregorian.specs.Calendar.{isDateOf};
-ghost use Rattle.days.specs.Days.{isDay};
+ghost use Rattle.rule_days.specs.Days.{isDay};
 ghost use Rattle.schedule.specs.MarketHours.{blackFriday, isEarlyCloseDay, usTradingHours};
 use crate::OptionalSession;
 use crate::OptionalTime;

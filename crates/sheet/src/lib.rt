@@ -4,7 +4,7 @@ ghost use Prim.Native.Nat.{_≤_};
 ghost use lib.ListN.{length};
 ghost use Rattle.checks.specs.Checks.{checkedRoom, finalBuffer};
 ghost use Rattle.sheet_lines.specs.Sheet.{sheetText};
-ghost use Rattle.sheet.specs.Call.{sheetOfMonth, sheetWritten, sheetBuffer, monthSheetResult, monthSheetBuffer};
+ghost use Rattle.sheet.specs.SheetCall.{sheetOfMonth, sheetWritten, sheetBuffer, monthSheetResult, monthSheetBuffer};
 use checks::MonthCheck;
 use checks::checked_month;
 use checks::checked_room;

@@ -1,3 +1,3 @@
 pub mod Splitting
-pub mod Theorem
+pub mod SheetLaws
 pub mod Example

@@ -18,7 +18,7 @@ use Rattle.decimal.specs.Decimal.{valueOf}
 use Rattle.request.specs.declared.Request.{Request}
 use Rattle.request.specs.Text.{ascii}
 use Rattle.request.specs.Request.{DigitString, readRequest}
-use Rattle.sheet.specs.Call.{monthSheetResult, monthSheetBuffer}
+use Rattle.sheet.specs.SheetCall.{monthSheetResult, monthSheetBuffer}
 
 -- ---- the bytes in parts
 

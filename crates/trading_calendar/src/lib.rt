@@ -7,7 +7,7 @@ pub mod trading_hours;
 ghost use mathlib.Core.Path.{_≡_};
 ghost use Rattle.utils.specs.Weekday.{nthWeekdayOfMonth, lastWeekdayOfMonth};
 ghost use Rattle.utils.specs.Easter.{calculateEaster, calculateGoodFriday, calculateEasterMonday};
-ghost use Rattle.calendar.specs.Calls.{isTradingDayResult, isHolidayResult};
+ghost use Rattle.calendar.specs.CalendarCalls.{isTradingDayResult, isHolidayResult};
 ghost use Rattle.answers.specs.Answers.{optionalDate, boolAnswer};
 use answers::BoolAnswer;
 use answers::OptionalDate;

@@ -1,6 +1,6 @@
 // The call for a month sheet.
 ghost use mathlib.Core.Path.{_≡_};
-ghost use Rattle.sheet.specs.Call.{monthSheetResult, monthSheetBuffer};
+ghost use Rattle.sheet.specs.SheetCall.{monthSheetResult, monthSheetBuffer};
 ghost use Rattle.answers.specs.Answers.{countAnswer};
 use answers::counts::CountAnswer;
 use answers::counts::count_answer;

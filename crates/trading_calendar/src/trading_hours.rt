@@ -1,9 +1,9 @@
 // The calls about hours that a host makes.
 ghost use mathlib.Core.Path.{_≡_};
 ghost use Rattle.gregorian.specs.Calendar.{date};
-ghost use Rattle.calendar.specs.Calls.{tradingHoursResult, isOpenResult};
-ghost use Rattle.hours.specs.Calls.{sessionNewResult, sessionContainsResult, tradingHoursNewResult, withEarlyCloseResult};
-ghost use Rattle.hours.specs.Calls.{isEarlyCloseResult, marketCloseResult, isOpenAtResult};
+ghost use Rattle.calendar.specs.CalendarCalls.{tradingHoursResult, isOpenResult};
+ghost use Rattle.hours_calls.specs.HoursCalls.{sessionNewResult, sessionContainsResult, tradingHoursNewResult, withEarlyCloseResult};
+ghost use Rattle.hours_calls.specs.HoursCalls.{isEarlyCloseResult, marketCloseResult, isOpenAtResult};
 ghost use Rattle.answers.specs.Records.{optionalSession, tradingHoursOf};
 ghost use Rattle.answers.specs.Answers.{boolAnswer, timeAnswer, sessionAnswer, hoursAnswer};
 use answers::BoolAnswer;
@@ -41,7 +41,7 @@ pub extern "C" fn tc_is_open(market: u32, year: u32, month: u32, day: u32, time:
 pub extern "C" fn tc_session_new(start: u32, end: u32) -> SessionAnswer
     ensures { λ r. ⌜ r ≡ sessionAnswer (sessionNewResult start end) ⌝ }
 {
-    session_answer(hours::session_new(start, end))
+    session_answer(hours_calls::session_new(start, end))
 }
 
 // [contains]: yes or no, or error 7.
@@ -49,7 +49,7 @@ pub extern "C" fn tc_session_new(start: u32, end: u32) -> SessionAnswer
 pub extern "C" fn tc_session_contains(session: Session, time: u32) -> BoolAnswer
     ensures { λ r. ⌜ r ≡ boolAnswer (sessionContainsResult session time) ⌝ }
 {
-    bool_answer(hours::session_contains(session, time))
+    bool_answer(hours_calls::session_contains(session, time))
 }
 
 // [hours-new]: the hours, without an early close, or the first of errors 5 and 7 that applies.
@@ -67,7 +67,7 @@ pub extern "C" fn tc_trading_hours_new(
     ensures { λ r. ⌜ r ≡ hoursAnswer (tradingHoursNewResult (date year month day) regular
         (optionalSession «has_pre_market» «pre_market») (optionalSession «has_after_hours» «after_hours»)) ⌝ }
 {
-    hours_answer(hours::trading_hours_new(
+    hours_answer(hours_calls::trading_hours_new(
         Date { year, month, day },
         regular,
         optional_session(has_pre_market, pre_market),
@@ -80,7 +80,7 @@ pub extern "C" fn tc_trading_hours_new(
 pub extern "C" fn tc_with_early_close(hours: Hours, time: u32) -> HoursAnswer
     ensures { λ r. ⌜ r ≡ hoursAnswer (withEarlyCloseResult (tradingHoursOf hours) time) ⌝ }
 {
-    hours_answer(hours::with_early_close(trading_hours_of(hours), time))
+    hours_answer(hours_calls::with_early_close(trading_hours_of(hours), time))
 }
 
 // [is-early-close]: yes or no, or the first of errors 5 and 7 that applies.
@@ -88,7 +88,7 @@ pub extern "C" fn tc_with_early_close(hours: Hours, time: u32) -> HoursAnswer
 pub extern "C" fn tc_is_early_close(hours: Hours) -> BoolAnswer
     ensures { λ r. ⌜ r ≡ boolAnswer (isEarlyCloseResult (tradingHoursOf hours)) ⌝ }
 {
-    bool_answer(hours::is_early_close(trading_hours_of(hours)))
+    bool_answer(hours_calls::is_early_close(trading_hours_of(hours)))
 }
 
 // [market-close]: the time, or the first of errors 5 and 7 that applies.
@@ -96,7 +96,7 @@ pub extern "C" fn tc_is_early_close(hours: Hours) -> BoolAnswer
 pub extern "C" fn tc_market_close(hours: Hours) -> TimeAnswer
     ensures { λ r. ⌜ r ≡ timeAnswer (marketCloseResult (tradingHoursOf hours)) ⌝ }
 {
-    time_answer(hours::market_close(trading_hours_of(hours)))
+    time_answer(hours_calls::market_close(trading_hours_of(hours)))
 }
 
 // [is-open-at]: yes or no, or the first of errors 5 and 7 that applies.
@@ -104,5 +104,5 @@ pub extern "C" fn tc_market_close(hours: Hours) -> TimeAnswer
 pub extern "C" fn tc_is_open_at(hours: Hours, time: u32) -> BoolAnswer
     ensures { λ r. ⌜ r ≡ boolAnswer (isOpenAtResult (tradingHoursOf hours) time) ⌝ }
 {
-    bool_answer(hours::is_open_at(trading_hours_of(hours), time))
+    bool_answer(hours_calls::is_open_at(trading_hours_of(hours), time))
 }

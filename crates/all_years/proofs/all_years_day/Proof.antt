@@ -4,7 +4,7 @@ use mathlib.Core.Bool.{true}
 use borrow.Author.Needs.{needs}
 use Rattle.utils.specs.declared.OptionalDay.the-variants.{Day}
 use Rattle.utils.specs.Inner.{InYears}
-use Rattle.all_years.specs.Answers.{dayAnswer}
+use Rattle.all_years.specs.AllYears.{dayAnswer}
 use Rattle.all_years.proofs.all_years_day.Statement.{statement}
 use Rattle.all_years.proofs.all_years_day.Tie as tie
 

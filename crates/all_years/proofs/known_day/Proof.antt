@@ -8,7 +8,7 @@ use Rattle.gregorian.specs.Calendar.{isDate}
 use Rattle.gregorian.proofs.Laws.{number-range}
 use Rattle.markets.specs.Markets.{isMarket}
 use Rattle.utils.specs.declared.OptionalDay.the-variants.{Day}
-use Rattle.all_years.specs.Answers.{knownDay}
+use Rattle.all_years.specs.AllYears.{knownDay}
 use Rattle.all_years.proofs.known_day.Statement.{statement}
 use Rattle.all_years.proofs.known_day.Tie as tie
 

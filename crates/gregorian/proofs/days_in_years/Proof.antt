@@ -1,7 +1,7 @@
 -- `gregorian::days_in_years` meets its contract: the formula is the sum of the year lengths.
 use mathlib.Core.Path.{sym}
 use borrow.Author.Needs.{needs}
-use Rattle.gregorian.proofs.Years.{years-is}
+use Rattle.gregorian.proofs.YearDays.{years-is}
 use Rattle.gregorian.proofs.days_in_years.Statement.{statement}
 use Rattle.gregorian.proofs.days_in_years.Tie as tie
 

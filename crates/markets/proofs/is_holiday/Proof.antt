@@ -4,7 +4,7 @@ use mathlib.Core.Path.{refl, ap, sym, _∙_}
 use mathlib.Core.List.{List}
 use native.Mathlib.Omega.{arith}
 use Rattle.gregorian.specs.Calendar.{lastYear}
-use Rattle.days.specs.Days.{contains}
+use Rattle.rule_days.specs.Days.{contains}
 use Rattle.markets.specs.Markets.{holidays}
 use Rattle.markets.proofs.MarketLaws.{year-range, us-market, no-market, by-code}
 use Rattle.markets.proofs.is_holiday.Statement.{statement}

@@ -10,7 +10,7 @@ use Rattle.trading_days.proofs.MonthDayLaws.{list-length, in-array, listed}
 use Rattle.checks.specs.declared.MonthCheck.{MonthCheck}
 use Rattle.checks.specs.Checks.{checkedMonth}
 use Rattle.checks.proofs.CheckLaws.{month-checked}
-use Rattle.sheet.proofs.CallLaws.{sheet-by-check, sheet-written}
+use Rattle.sheet.proofs.SheetCallLaws.{sheet-by-check, sheet-written}
 use Rattle.sheet.proofs.sheet_of_month.Statement.{statement}
 use Rattle.sheet.proofs.sheet_of_month.Tie as tie
 

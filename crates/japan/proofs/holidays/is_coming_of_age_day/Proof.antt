@@ -2,7 +2,7 @@
 use mathlib.Core.Path.{sym, _∙_}
 use borrow.Author.Needs.{needs}
 use Rattle.gregorian.specs.Calendar.{monday}
-use Rattle.days.proofs.DayLaws.{day-is, none-is, not-nth}
+use Rattle.rule_days.proofs.DayLaws.{day-is, none-is, not-nth}
 use Rattle.japan.proofs.holidays.is_coming_of_age_day.Statement.{statement}
 use Rattle.japan.proofs.holidays.is_coming_of_age_day.Tie as tie
 

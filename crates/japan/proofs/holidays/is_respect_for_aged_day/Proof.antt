@@ -1,7 +1,7 @@
 -- `japan::holidays::is_respect_for_aged_day` meets its contract: the day of the answer, or none.
 use mathlib.Core.Path.{sym, _∙_}
 use borrow.Author.Needs.{needs}
-use Rattle.days.proofs.DayLaws.{day-is, none-is}
+use Rattle.rule_days.proofs.DayLaws.{day-is, none-is}
 use Rattle.japan.proofs.holidays.is_respect_for_aged_day.Statement.{statement}
 use Rattle.japan.proofs.holidays.is_respect_for_aged_day.Tie as tie
 

@@ -8,7 +8,7 @@ use Rattle.utils.specs.declared.OptionalDay.the-variants.{Day}
 use Rattle.utils.specs.Weekday.{mapDay}
 use Rattle.utils.specs.Inner.{InYears}
 use Rattle.utils.proofs.WeekdayLaws.{nth-in-years}
-use Rattle.days.specs.Days.{isDay}
+use Rattle.rule_days.specs.Days.{isDay}
 use Rattle.markets.specs.Us.{thanksgivingDay}
 use Rattle.schedule.proofs.us.is_black_friday.Statement.{statement}
 use Rattle.schedule.proofs.us.is_black_friday.Tie as tie

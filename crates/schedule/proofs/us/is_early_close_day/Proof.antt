@@ -6,7 +6,7 @@ use lib.Dec.{eqb}
 use native.Mathlib.Omega.{arith}
 use borrow.Author.Needs.{needs}
 use Rattle.gregorian.proofs.Laws.{number-range}
-use Rattle.days.specs.Days.{isDay}
+use Rattle.rule_days.specs.Days.{isDay}
 use Rattle.markets.specs.Markets.{isWeekend}
 use Rattle.schedule.specs.MarketHours.{blackFriday, isEarlyCloseDay}
 use Rattle.schedule.proofs.us.is_early_close_day.Statement.{statement}

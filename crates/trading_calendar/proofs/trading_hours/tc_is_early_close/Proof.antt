@@ -2,7 +2,7 @@
 use mathlib.Core.Path.{ap, _∙_}
 use borrow.Author.Needs.{needs}
 use Rattle.schedule.specs.declared.TradingHours.{TradingHours}
-use Rattle.hours.specs.Calls.{isEarlyCloseResult}
+use Rattle.hours_calls.specs.HoursCalls.{isEarlyCloseResult}
 use Rattle.answers.specs.Answers.{boolAnswer}
 use Rattle.trading_calendar.proofs.trading_hours.tc_is_early_close.Statement.{statement}
 use Rattle.trading_calendar.proofs.trading_hours.tc_is_early_close.Tie as tie

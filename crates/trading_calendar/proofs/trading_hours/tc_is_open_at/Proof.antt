@@ -2,7 +2,7 @@
 use mathlib.Core.Path.{ap, _∙_}
 use borrow.Author.Needs.{needs}
 use Rattle.schedule.specs.declared.TradingHours.{TradingHours}
-use Rattle.hours.specs.Calls.{isOpenAtResult}
+use Rattle.hours_calls.specs.HoursCalls.{isOpenAtResult}
 use Rattle.answers.specs.Answers.{boolAnswer}
 use Rattle.trading_calendar.proofs.trading_hours.tc_is_open_at.Statement.{statement}
 use Rattle.trading_calendar.proofs.trading_hours.tc_is_open_at.Tie as tie

@@ -5,8 +5,8 @@ use lib.Dec.{eqb}
 use native.Mathlib.Omega.{arith}
 use borrow.Author.Tests.{not-true}
 use borrow.Author.Needs.{needs}
-use Rattle.days.specs.Days.{matchWeekend}
-use Rattle.days.proofs.DayLaws.{not-between, match-between}
+use Rattle.rule_days.specs.Days.{matchWeekend}
+use Rattle.rule_days.proofs.DayLaws.{not-between, match-between}
 use Rattle.markets.proofs.CanadaLaws.{boxing-day-is}
 use Rattle.markets.proofs.canada.holidays.is_boxing_day.Statement.{statement}
 use Rattle.markets.proofs.canada.holidays.is_boxing_day.Tie as tie

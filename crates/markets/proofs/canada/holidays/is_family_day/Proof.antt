@@ -3,7 +3,7 @@ use mathlib.Core.Path.{sym, _∙_}
 use native.Mathlib.Omega.{arith}
 use borrow.Author.Tests.{lt-leb, le-leb}
 use borrow.Author.Needs.{needs}
-use Rattle.days.proofs.DayLaws.{day-is, none-is}
+use Rattle.rule_days.proofs.DayLaws.{day-is, none-is}
 use Rattle.markets.proofs.canada.holidays.is_family_day.Statement.{statement}
 use Rattle.markets.proofs.canada.holidays.is_family_day.Tie as tie
 

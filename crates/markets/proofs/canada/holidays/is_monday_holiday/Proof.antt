@@ -4,7 +4,7 @@ use mathlib.Core.Bool.{_||_}
 use lib.Dec.{eqb}
 use borrow.Author.Needs.{needs}
 use Rattle.gregorian.specs.Calendar.{monday, weekdayOf}
-use Rattle.days.proofs.DayLaws.{not-nth}
+use Rattle.rule_days.proofs.DayLaws.{not-nth}
 use Rattle.markets.proofs.CanadaLaws.{not-family-day, not-victoria-day}
 use Rattle.markets.proofs.canada.holidays.is_monday_holiday.Statement.{statement}
 use Rattle.markets.proofs.canada.holidays.is_monday_holiday.Tie as tie

@@ -5,7 +5,7 @@ use native.Mathlib.Omega.{arith}
 use borrow.Author.Tests.{not-true}
 use borrow.Author.Needs.{needs}
 use Rattle.utils.specs.Easter.{calculateEasterMonday}
-use Rattle.days.proofs.DayLaws.{day-is, none-is, around-easter, away-from-easter}
+use Rattle.rule_days.proofs.DayLaws.{day-is, none-is, around-easter, away-from-easter}
 use Rattle.markets.proofs.uk.holidays.is_easter_monday.Statement.{statement}
 use Rattle.markets.proofs.uk.holidays.is_easter_monday.Tie as tie
 

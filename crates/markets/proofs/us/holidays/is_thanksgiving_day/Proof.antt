@@ -2,7 +2,7 @@
 use mathlib.Core.Path.{sym, _∙_}
 use borrow.Author.Needs.{needs}
 use Rattle.gregorian.specs.Calendar.{thursday}
-use Rattle.days.proofs.DayLaws.{day-is, none-is, not-nth}
+use Rattle.rule_days.proofs.DayLaws.{day-is, none-is, not-nth}
 use Rattle.markets.proofs.us.holidays.is_thanksgiving_day.Statement.{statement}
 use Rattle.markets.proofs.us.holidays.is_thanksgiving_day.Tie as tie
 

@@ -1,3 +1,0 @@
-pub mod ClosedForms
-pub mod Years
-pub mod Markets

@@ -1,0 +1,3 @@
+pub mod ClosedForms
+pub mod YearFlags
+pub mod MarketAgreement
