@@ -122,7 +122,8 @@ tc_optional_date tc_calculate_easter(uint32_t year);
 tc_optional_date tc_calculate_good_friday(uint32_t year);
 tc_optional_date tc_calculate_easter_monday(uint32_t year);
 
-/* Whether the date is no Saturday, no Sunday and no holiday of the market [trading-day]. Errors: 8 market, 5 date, 1 year
+/* Whether the date is no Saturday, no Sunday and no holiday of the market [trading-day]. On some dates the exchange does otherwise: a
+ * host that has to follow it asks its own list of exceptions first (docs/DIFFERENCES.md). Errors: 8 market, 5 date, 1 year
  * [year-check]. */
 tc_bool_result tc_is_trading_day(uint32_t market, uint32_t year, uint32_t month, uint32_t day);
 
@@ -146,13 +147,14 @@ tc_count_result tc_count_trading_days(uint32_t market, uint32_t start_year, uint
                                       uint32_t end_year, uint32_t end_month, uint32_t end_day);
 
 /* The hours of the market on a date of any year, be it a trading day or not [trading-hours]. On an early close of the US
- * [early-close] regular.end stays, early_close is set, and after_hours begin with it; tc_market_close gives the close. Errors:
- * 8 market, 5 date. */
+ * [early-close] regular.end stays, early_close is set, and after_hours begin with it; tc_market_close gives the close. The exchange's
+ * hours differ on many days: a host's own exceptions come first (docs/DIFFERENCES.md). Errors: 8 market, 5 date. */
 tc_hours_result tc_trading_hours(uint32_t market, uint32_t year, uint32_t month, uint32_t day);
 
 /* Whether the date is a trading day of the market and its hours on that date are open at the time [is-open]. Pre-market and
  * after-hours count as open: the US is open from 14400 to 72000 on every trading day, early closes too. For the regular session
- * alone compare with regular.start and tc_market_close. Errors: 8 market, 5 date, 7 time, 1 year. */
+ * alone compare with regular.start and tc_market_close. The exchange may be closed or open all the same: a host's own exceptions
+ * come first (docs/DIFFERENCES.md). Errors: 8 market, 5 date, 7 time, 1 year. */
 tc_bool_result tc_is_open(uint32_t market, uint32_t year, uint32_t month, uint32_t day, uint32_t time);
 
 /* The session from start to end, over midnight if the end is before the start [session-new]. Errors: 7 time, 3 session. */

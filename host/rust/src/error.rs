@@ -6,7 +6,8 @@ use std::fmt;
 /// The original's errors, and those that were added.
 #[derive(Debug, Clone, PartialEq, Eq)]
 pub enum CalendarError {
-    /// The date given, the start of a count or the 1st of a month is outside 2020 to 2030 `[year-check]` `[month-list]` `[count]`.
+    /// Not every date asked for is in 2020 to 2030; with the date given, the start of a count or the 1st of a month `[year-check]`
+    /// `[month-list]` `[count]`.
     DateOutOfRange(NaiveDate),
     /// An early close that is not before the regular end `[with-early-close]`.
     InvalidTime(String),
@@ -77,7 +78,8 @@ impl fmt::Display for CalendarError {
     fn fmt(&self, f: &mut fmt::Formatter<'_>) -> fmt::Result {
         match self {
             CalendarError::DateOutOfRange(date) => {
-                write!(f, "{date} is outside the years 2020 to 2030")
+                let why = "not every date asked for is in 2020 to 2030";
+                write!(f, "error 1 at {date}: {why}")
             }
             CalendarError::InvalidTime(why) => write!(f, "invalid time: {why}"),
             CalendarError::NoTradingDayFound => {

@@ -133,7 +133,9 @@ fn each_error_has_its_number_and_a_text_of_its_own() {
     let text = |error: &CalendarError| (error as &dyn Error).to_string();
     let texts: BTreeSet<String> = errors.iter().map(text).collect();
     assert_eq!(texts.len(), errors.len());
-    assert!(texts.contains("2019-01-01 is outside the years 2020 to 2030"));
+    let count = nyse().count_trading_days(date(2026, 1, 1), date(2031, 1, 1));
+    let due = "error 1 at 2026-01-01: not every date asked for is in 2020 to 2030";
+    assert_eq!(text(&count.unwrap_err()), due);
 }
 
 #[test]
