@@ -12,6 +12,10 @@ need() { # COMMAND...: ends the script where one is not there
     done
 }
 
+need_file() { # FILE COMMAND: ends the script where the file that the command makes is not there
+    [ -f "$1" ] || { say "$1 is missing: run '$2' first; see 'Link it' in README.md"; exit 1; }
+}
+
 is_older() { # FILE: than the sources that it is made from
     [ -n "$(find crates.txt crates -name must-fail -prune -o -newer "$1" -print -quit)" ]
 }

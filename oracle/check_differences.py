@@ -4,19 +4,23 @@
 usage: check_differences.py [REPOSITORY [PAGE]]
 
 A line of a table has: date, weekday, what the document says, what the answer is here, the document, the programs that confirm
-it. "Document says" and "here" begin with the answer: trades, closed, holiday or no holiday. A line of the table of other years
-begins with the market; there the programs that say otherwise follow after "not". Words after an answer's colon are not read.
+it. "Document says" and "here" begin with the answer: trades, closed, holiday or no holiday. In the tables of other years date and
+weekday are one cell, and the programs that say otherwise follow after "not". Where the last cell is empty, the programs are those
+of the sentence "Confirmed by Q29 EC where the last column is empty.", a line of its own below the heading. It is there once if a
+last cell is empty, and else not. No other text around the tables is read, nor are words after an answer's colon.
 A line of hours has: markets, days, a first input, what the document says, what the answer is here, the document, the programs.
 Days are "24 and 31 December of 2020, 2024 to 2027" or, for the days with a session among them, "2020-01-01 to 2024-11-04". Hours
 are "no session" or sessions as "09:00 to 11:30, 12:30 to 15:00"; here they are the regular session of trading_hours, up to the
 early close if there is one. A first input, "2020-12-24 at 45000", is the first of the days and a second at which the two differ.
-Of the hours that no program has, the first input and the answer of is_open, open or closed, are checked.
+Hours here are computed by [hours] and [early-close], and compared with the stored answers of trading_hours. Of the hours that no
+program has, the first input and the answer of is_open, open or closed, are checked.
 A program that is not installed, or not in the version that the page names, is reported as not compared. Beside the programs stand
 "rules", the public rules computed here for 2020 to 2030; LSE's proclaimed days and the moved holidays of the Tokyo Games are data
 there, so that for these lines it is no second derivation.
 Exit status 1 means that something is wrong, each told by a line "WRONG": a table that is missing, a line with a wrong date,
-weekday, input, answer here, document or "Confirmed by", a program that differs on a day that no line and no gap explains, a gap
-that is none, stored hours that are not those taken for the answers here, or that no program was compared.
+weekday, input, answer here, document or "Confirmed by", or with a cell too few or too many, an empty last cell and no sentence,
+or the reverse, a code that the table of sources does not have, a program that differs on a day that no line and no gap explains,
+a gap that is none, stored hours that are not those taken for the answers here, or that no program was compared.
 """
 import re
 import shutil
@@ -39,11 +43,12 @@ WEEKENDS = [d for d in DAYS if d.weekday() >= 5]
 MARKETS = ["NYSE", "NASDAQ", "LSE", "TSE", "TSX"]
 DATE_TABLES = {"NYSE and NASDAQ": ["NYSE", "NASDAQ"], "LSE": ["LSE"], "TSE": ["TSE"], "TSX": ["TSX"]}
 WEEKEND_TABLES = {"TSE, weekends": ["TSE"]}
-OTHER_YEARS = "Other years, by date"
+OTHER_YEARS = {f"Other years, {market}": market for market in MARKETS if market != "NASDAQ"}
 HOURS = "Hours, 2020 to 2030"
 OTHER_HOURS = "Other years, hours"
 UNCONFIRMED_HOURS = "Hours that no program has"
-LINE_TABLES = [*DATE_TABLES, *WEEKEND_TABLES, OTHER_YEARS, HOURS, OTHER_HOURS]
+LINE_TABLES = [*DATE_TABLES, *WEEKEND_TABLES, *OTHER_YEARS, HOURS, OTHER_HOURS]
+SENTENCE = re.compile(r"Confirmed by ([A-Z0-9]+(?: [A-Z0-9]+)*) where the last column is empty\.")
 MONTHS = ["January", "February", "March", "April", "May", "June", "July", "August", "September", "October", "November", "December"]
 
 # [hours]: regular sessions, and from when until when the US is open with what comes before and after them
@@ -460,18 +465,43 @@ def answer_in(cell):
 
 
 def cells(line):
-    return [cell.strip() for cell in line.strip().strip("|").split("|")]
+    return [cell.strip() for cell in line.strip().removeprefix("|").removesuffix("|").split("|")]
 
 
 def read_page(path):
-    """The table below each heading, as lists of cells without the two header lines."""
-    tables, heading = {}, None
+    """The table below each heading, as lists of cells, and the codes that sentences there have for empty last cells."""
+    tables, sentences, heading = {}, {}, ""
     for line in path.read_text().splitlines():
-        if line.startswith("#"):
+        sentence = SENTENCE.fullmatch(line)
+        if re.match("#+ ", line):
             heading = line.lstrip("#").strip()
-        elif line.startswith("|") and heading:
+        elif sentence:
+            sentences.setdefault(heading, []).append(sentence[1])
+        elif line.startswith("|"):
             tables.setdefault(heading, []).append(cells(line))
-    return {name: rows[2:] for name, rows in tables.items()}
+    return tables, sentences
+
+
+def lines_in(tables, report):
+    """The lines below the two header lines, but for those with a cell too few or too many, which are wrong."""
+    lines = {}
+    for name, (header, *rows) in tables.items():
+        lines[name] = [row for row in rows[1:] if len(row) == len(header)]
+        for row in rows[1:]:
+            if len(row) != len(header):
+                report.error(f"{name}, {' | '.join(row)}: {len(row)} cells, not {len(header)}")
+    return lines
+
+
+def fill_in_codes(tables, sentences, report):
+    """Puts the codes of a table's sentence into its empty last cells."""
+    for name in [*LINE_TABLES, *sorted(set(sentences) - set(LINE_TABLES))]:
+        empty = [row for row in tables.get(name, []) if not row[-1] and name in LINE_TABLES]
+        named = sentences.get(name, [])
+        if len(named) != (1 if empty else 0):
+            report.error(f"{name}: {len(empty)} lines whose last cell is empty, and {len(named)} sentences for them")
+        for row in empty:
+            row[-1] = " ".join(named)
 
 
 def source_codes(tables):
@@ -630,24 +660,30 @@ def check_gaps(listed, holidays, sources, report):
                     report.error(f"{source.code} {market} {day}: named as a gap, and is none")
 
 
-def check_other_years(rows, holidays, years, sources, report):
-    """The answer here, who confirms a line, and who says otherwise."""
-    compared = {source.code for source in sources}
-    for market, text, weekday, says, here, _, cell in rows:
-        day, says, here = day_in(text, years[market] - set(YEARS), report), answer_in(says), answer_in(here)
-        if day is None:
-            continue
-        if weekday != day.strftime("%a") or says == here or answer_here("date", market, day, holidays) != here:
-            report.error(f"{market} {day}: not a {weekday}, no difference, or the answer here is not {here}")
-        yes, _, no = cell.partition(" not ")
-        answers = {s.code: answer_of(s, "date", market, day) for s in sources}
-        confirm = {code for code, answer in answers.items() if answer == says}
-        against = {code for code, answer in answers.items() if answer not in (says, None)}
-        if codes_in(yes) & compared != confirm or codes_in(no) & compared != against:
-            report.error(f"{market} {day}: confirmed by {sorted(confirm)}, not by {sorted(against)}; the page has {cell}")
-    if not rows or len({(row[0], row[1]) for row in rows}) != len(rows):
-        report.error(f"{OTHER_YEARS}: no lines, or one is there twice")
-    print(f"{OTHER_YEARS}: {len(rows)} lines")
+def check_other_line(row, market, holidays, years, sources, report):
+    """The answer here, who confirms the line, and who says otherwise."""
+    text, _, weekday = row[0].partition(" ")
+    day, says, here = day_in(text, years - set(YEARS), report), answer_in(row[1]), answer_in(row[2])
+    if day is None:
+        return
+    if weekday != day.strftime("%a") or says == here or answer_here("date", market, day, holidays) != here:
+        report.error(f"{market} {day}: not a {weekday}, no difference, or the answer here is not {here}")
+    yes, _, no = row[-1].partition(" not ")
+    answers = {source.code: answer_of(source, "date", market, day) for source in sources}
+    confirm = {code for code, answer in answers.items() if answer == says}
+    against = {code for code, answer in answers.items() if answer not in (says, None)}
+    if codes_in(yes) & set(answers) != confirm or codes_in(no) & set(answers) != against:
+        report.error(f"{market} {day}: confirmed by {sorted(confirm)}, not by {sorted(against)}; the page has {row[-1]}")
+
+
+def check_other_years(tables, holidays, years, sources, report):
+    for name, market in OTHER_YEARS.items():
+        rows = tables.get(name, [])
+        for row in rows:
+            check_other_line(row, market, holidays, years[market], sources, report)
+        if not rows or len({row[0] for row in rows}) != len(rows):
+            report.error(f"{name}: no lines, or one is there twice")
+        print(f"{name}: {len(rows)} lines")
 
 
 def hours_of(source, market, day):
@@ -809,7 +845,7 @@ def check_date_tables(tables, holidays, sources, report):
 
 def other_years_in(tables):
     """The years of the lines of other years."""
-    by_date = {int(row[1][:4]) for row in tables.get(OTHER_YEARS, [])}
+    by_date = {int(row[0][:4]) for name in OTHER_YEARS for row in tables.get(name, [])}
     return by_date | {int(year) for row in tables.get(OTHER_HOURS, []) for year in re.findall(r"\b\d{4}\b", row[1])}
 
 
@@ -818,7 +854,9 @@ def main():
     page = Path(sys.argv[2]) if len(sys.argv) > 2 else root / PAGE
     report = Report()
     holidays, stored_years = stored_holidays(root / STORED)
-    tables = read_page(page)
+    tables, sentences = read_page(page)
+    tables = lines_in(tables, report)
+    fill_in_codes(tables, sentences, report)
     codes = source_codes(tables)
     programs = load_programs(codes, set(YEARS) | other_years_in(tables))
     rules = public_rules()
@@ -829,7 +867,7 @@ def main():
     listed_days = check_date_tables(tables, holidays, sources, report)
     check_gaps(listed_days, holidays, sources, report)
     check_hours(tables, root, holidays, programs, rules, report)
-    check_other_years(tables.get(OTHER_YEARS, []), holidays, stored_years, programs, report)
+    check_other_years(tables, holidays, stored_years, programs, report)
     if not programs:
         report.error("no program was compared")
     print(f"{report.errors} wrong")
