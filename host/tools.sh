@@ -16,6 +16,12 @@ need_file() { # FILE COMMAND: ends the script where the file that the command ma
     [ -f "$1" ] || { say "$1 is missing: run '$2' first; see 'Link it' in README.md"; exit 1; }
 }
 
+has_rust() { # cargo, and the Rust that the binding needs
+    local version
+    version=$(rustc --version 2>/dev/null | sed -n 's/^rustc 1\.\([0-9]*\)\..*/\1/p')
+    command -v cargo >/dev/null && [ "${version:-0}" -ge 82 ]
+}
+
 is_older() { # FILE: than the sources that it is made from
     [ -n "$(find crates.txt crates -name must-fail -prune -o -newer "$1" -print -quit)" ]
 }
