@@ -2,7 +2,8 @@
  *
  * Every call takes any numbers and any text. It allocates nothing and keeps no state, so threads may call at the same time. Structs
  * are given and returned by value; a call writes to the buffer that it is lent and to nothing else. A time is a second of the day,
- * 0 to 86399, on the exchange's own clock; no call knows time zones, the host converts [time] [left-out]. */
+ * 0 to 86399, on the exchange's own clock; no call knows time zones, the host converts [time] [left-out]. Which days trade, and
+ * when, is by the rules of docs/SCOPE.md for every call; docs/DIFFERENCES.md has the dates on which exchanges do otherwise. */
 #ifndef TRADING_CALENDAR_H
 #define TRADING_CALENDAR_H
 

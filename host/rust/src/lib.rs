@@ -34,7 +34,7 @@
 //! | `MarketImpl` with the types behind it, `constants` | not there: the rules are in the library, and `trading_hours` gives the times |
 //!
 //! Added are `is_open`, `next_trading_day_with_distance`, `previous_trading_day_with_distance` and `month_sheet` of a calendar,
-//! `Market::ALL` and `Market::number`, `CalendarError::number`, and `try_from` for a market from its code, a time from its second and a
+//! `Market::ALL` and `Market::number`, `CalendarError::number`, and `try_from` for a market from its number, a time from its second and a
 //! date from an `ffi::Date`.
 //!
 //! Nothing here panics. A date, a time and a market are valid once they are made, so errors 5, 7 and 8 of `[errors]` come from
