@@ -16,10 +16,10 @@ need_file() { # FILE COMMAND: ends the script where the file that the command ma
     [ -f "$1" ] || { say "$1 is missing: run '$2' first; see 'Link it' in README.md"; exit 1; }
 }
 
-has_rust() { # cargo, and the Rust that the binding needs
+has_rust() { # WHAT: cargo and the Rust that the binding needs are there; where not, says that this is left out
     local version
     version=$(rustc --version 2>/dev/null | sed -n 's/^rustc 1\.\([0-9]*\)\..*/\1/p')
-    command -v cargo >/dev/null && [ "${version:-0}" -ge 82 ]
+    command -v cargo >/dev/null && [ "${version:-0}" -ge 82 ] || { echo "no cargo with Rust 1.82 here: $1 left out"; return 1; }
 }
 
 is_older() { # FILE: than the sources that it is made from
