@@ -30,6 +30,7 @@ BOTH(next_trading_day, of_trading_day, N(0), DATE(1))
 BOTH(previous_trading_day, of_trading_day, N(0), DATE(1))
 BOTH(trading_days_in_month, of_count, N(0), N(1), N(2), in->out, in->out_length)
 BOTH(count_trading_days, of_count, N(0), DATE(1), DATE(4))
+BOTH(slice_order, of_slice, N(0), N(1), DATE(2), DATE(5), in->out, in->out_length)
 BOTH(trading_hours, of_hours, N(0), DATE(1))
 BOTH(is_open, of_bool, N(0), DATE(1), N(4))
 BOTH(session_new, of_session, N(0), N(1))
@@ -41,8 +42,8 @@ BOTH(market_close, of_time, RECORD)
 BOTH(is_open_at, of_bool, RECORD, N(FIELDS))
 BOTH(month_sheet, of_count, in->text, in->text_length, in->out, in->out_length)
 
-#define ROW(name, letters, same, takes_text, takes_out) \
-    {"tc_" #name, letters, same, takes_text, takes_out, library_##name, plain_##name##_of}
+#define ROW(name, letters, same, takes_text, entry_size) \
+    {"tc_" #name, letters, same, takes_text, entry_size, library_##name, plain_##name##_of}
 
 const call calls[CALLS] = {
     ROW(nth_weekday_of_month, "ymwn", 0, 0, 0),
@@ -56,6 +57,7 @@ const call calls[CALLS] = {
     ROW(previous_trading_day, "Mymd", 0, 0, 0),
     ROW(trading_days_in_month, "MYm", 0, 0, 1),
     ROW(count_trading_days, "MYmdYmd", 0, 0, 0),
+    ROW(slice_order, "MqYmdYmd", 0, 0, 4),
     ROW(trading_hours, "Mymd", 0, 0, 0),
     ROW(is_open, "MYmdt", 4, 0, 0),
     ROW(session_new, "tt", 0, 0, 0),
@@ -69,12 +71,12 @@ const call calls[CALLS] = {
 };
 
 /* Which numbers of a letter are valid: markets, years that have trading days, years, months, days, weekdays, which of these, times,
- * and whether a part of a record is present. */
+ * whether a part of a record is present, and quantities. */
 static const struct {
     uint32_t least, most;
 } ranges[] = {
     ['M'] = {0, 4}, ['Y'] = {2020, 2030}, ['y'] = {1, 9999}, ['m'] = {1, 12},    ['d'] = {1, 31},
-    ['w'] = {0, 6}, ['n'] = {1, 5},       ['h'] = {0, 1},    ['t'] = {0, 86399},
+    ['w'] = {0, 6}, ['n'] = {1, 5},       ['h'] = {0, 1},    ['t'] = {0, 86399}, ['q'] = {0, UINT32_MAX},
 };
 
 static uint32_t draw_value(char letter, uint32_t *sequence) {
@@ -85,7 +87,7 @@ static uint32_t draw_value(char letter, uint32_t *sequence) {
     case 1: return limits[number % LIMITS];
     case 2: return least - 2 + number % 4;
     case 3: return most - 1 + number % 4;
-    default: return least + number % (most - least + 1);
+    default: return least + (uint32_t)(number % ((uint64_t)most - least + 1));
     }
 }
 

@@ -4,25 +4,27 @@
 
 #include "compare.h"
 
-/* What a call is given: its numbers in order, and the lists that it takes. The numbers of a month sheet stand in its text. */
+/* What a call is given: its numbers in order, and the lists that it takes, of so many entries. The numbers of a month sheet stand
+ * in its text. */
 typedef struct {
     uint32_t values[14];
     const uint8_t *text;
     size_t text_length;
-    uint8_t *out;
+    void *out;
     size_t out_length;
 } input;
 
 /* A call by its name, and a letter for each of its numbers. The plain calendar answers faster if the first numbers, so
- * many, stay the same from call to call. */
+ * many, stay the same from call to call. An entry of the list that it writes to has so many bytes, 0 if it takes none. */
 typedef struct {
     const char *name, *letters;
-    int same, takes_text, takes_out;
+    int same, takes_text;
+    size_t entry_size;
     numbers (*library)(const input *in);
     numbers (*plain)(const input *in);
 } call;
 
-enum { CALLS = 21 };
+enum { CALLS = 22 };
 extern const call calls[CALLS];
 
 /* Draws the numbers of a call from a place on: most of them valid, some at their limits, some at any limit, some any numbers. */

@@ -32,6 +32,11 @@ numbers of_count(tc_count_result a) {
     return list;
 }
 
+numbers of_slice(tc_slice_result a) {
+    numbers list = {7, {a.error, a.count, a.per_day, a.remainder, a.date.year, a.date.month, a.date.day}};
+    return list;
+}
+
 numbers of_time(tc_time_result a) {
     numbers list = {2, {a.error, a.seconds}};
     return list;
@@ -118,4 +123,43 @@ void ask_limits(asker *ask) {
         for (int b = 0; b < LIMITS; b++)
             for (int c = 0; c < LIMITS; c++)
                 for (int d = 0; d < LIMITS; d++) ask(limits[a], limits[b], limits[c], limits[d]);
+}
+
+numbers range_of(uint32_t market, tc_date start, tc_date end) {
+    numbers range = {RANGE_NUMBERS, {market, start.year, start.month, start.day, end.year, end.month, end.day}};
+    return range;
+}
+
+/* Around the ends of 2020 to 2030, leap days, a weekend, far outside; then numbers that are no date, inside and outside. */
+enum { EDGES = 40 };
+static const tc_date edges[EDGES] = {
+    {2019, 12, 30},     {2019, 12, 31},        {2020, 1, 1},          {2020, 1, 2},   {2020, 2, 28},    {2020, 2, 29},
+    {2020, 3, 1},       {2022, 4, 28},         {2022, 5, 9},          {2024, 2, 29},  {2025, 1, 1},     {2025, 1, 31},
+    {2025, 3, 8},       {2025, 3, 9},          {2030, 12, 30},        {2030, 12, 31}, {2031, 1, 1},     {2031, 1, 2},
+    {2019, 1, 1},       {2031, 12, 31},        {1, 1, 1},             {1970, 1, 1},   {9999, 12, 31},   {0, 0, 0},
+    {0, 12, 31},        {2019, 2, 29},         {2025, 0, 1},          {2025, 13, 1},  {2025, 1, 0},     {2025, 1, 32},
+    {2025, 2, 29},      {2024, 2, 30},         {2025, 4, 31},         {2031, 2, 29},  {10000, 1, 1},    {2020, 0, 0},
+    {UINT32_MAX, 1, 1}, {2025, UINT32_MAX, 1}, {2025, 1, UINT32_MAX}, {2030, 12, 32}};
+
+void ask_edges(range_asker *ask) {
+    for (int i = 0; i < CODES; i++)
+        for (int a = 0; a < EDGES; a++)
+            for (int b = 0; b < EDGES; b++) ask(range_of(codes[i], edges[a], edges[b]));
+}
+
+tc_date drawn_date(void) {
+    tc_date date = {2019 + drawn() % 13, 1 + drawn() % 12, 1 + drawn() % 31};
+    return date;
+}
+
+numbers drawn_range(void) {
+    tc_date start = drawn_date(), end = drawn_date();
+    return range_of(drawn() % 5, start, end);
+}
+
+numbers drawn_limits(void) {
+    numbers range = drawn_range();
+    for (int place = 0; place < range.count; place++)
+        if (drawn() % 4 == 0) range.values[place] = limits[drawn() % LIMITS];
+    return range;
 }

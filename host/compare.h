@@ -18,6 +18,7 @@ numbers of_date(tc_optional_date answer);
 numbers of_bool(tc_bool_result answer);
 numbers of_trading_day(tc_trading_day_result answer);
 numbers of_count(tc_count_result answer);
+numbers of_slice(tc_slice_result answer);
 numbers of_time(tc_time_result answer);
 numbers of_session(tc_session_result answer);
 numbers of_hours(tc_hours_result answer);
@@ -59,5 +60,20 @@ void ask_years(asker *ask, uint32_t first, uint32_t last);
 enum { LIMITS = 23 };
 extern const uint32_t limits[LIMITS];
 void ask_limits(asker *ask);
+
+/* Compares what a call answers on a date range: a market, the start and the end, as numbers in this order. */
+typedef void range_asker(numbers range);
+enum { RANGE_NUMBERS = 7 };
+numbers range_of(uint32_t market, tc_date start, tc_date end);
+
+/* Every two dates around the ends of 2020 to 2030 and far outside, leap days, a weekend, and numbers that are no date, for each
+ * code. */
+#define EDGE_RANGES (8ul * 40 * 40)
+void ask_edges(range_asker *ask);
+
+/* A date of 2019 to 2031, or one like 31 February; two of them; and two with some of the numbers at and past the limits. */
+tc_date drawn_date(void);
+numbers drawn_range(void);
+numbers drawn_limits(void);
 
 #endif

@@ -1,6 +1,6 @@
 /* Prints the moving days of a year that the markets' rules rest on; for each market its regular hours, its trading days, counted,
- * and its holidays, be they on weekends or not; when NYSE closes early, its trading days in December and beside the 25th. Usage:
- * example YEAR. */
+ * and its holidays, be they on weekends or not; when NYSE closes early, its trading days in December and beside the 25th, and an
+ * order sliced over its year. Usage: example YEAR. */
 #include "trading_calendar.h"
 
 #include <stdio.h>
@@ -93,6 +93,20 @@ static void print_month(const char *name, uint32_t market, uint32_t year, uint32
     printf("\n");
 }
 
+/* The first days carry one share more until the remainder is spent. */
+static void print_order(const char *name, uint32_t market, uint32_t quantity, uint32_t year) {
+    uint32_t slices[TC_SLICE_BUFFER_LENGTH];
+    tc_slice_result answer = tc_slice_order(market, quantity, year, 1, 1, year, 12, 31, slices, TC_SLICE_BUFFER_LENGTH);
+    printf("%s, %lu shares over the year: ", name, (unsigned long)quantity);
+    if (answer.error != TC_OK) {
+        printf("error %lu\n", (unsigned long)answer.error);
+        return;
+    }
+    printf("%lu days, %lu a day, remainder %lu; ", (unsigned long)answer.count, (unsigned long)answer.per_day,
+           (unsigned long)answer.remainder);
+    printf("%lu on the first day, %lu on the last\n", (unsigned long)slices[0], (unsigned long)slices[answer.count - 1]);
+}
+
 static void print_nyse(uint32_t year) {
     enum { TEN = 36000 };
     printf("NYSE closes early on: ");
@@ -101,6 +115,7 @@ static void print_nyse(uint32_t year) {
     print_month("NYSE, trading days of Dec", TC_NYSE, year, 12);
     print_neighbour("NYSE, last trading day before Dec 25", tc_previous_trading_day(TC_NYSE, year, 12, 25));
     print_neighbour("NYSE, next trading day after Dec 25", tc_next_trading_day(TC_NYSE, year, 12, 25));
+    print_order("NYSE", TC_NYSE, 1000000, year);
 }
 
 static void print_markets(uint32_t year) {

@@ -21,6 +21,8 @@ tc_trading_day_result plain_previous_trading_day(uint32_t market, uint32_t year,
 tc_count_result plain_trading_days_in_month(uint32_t market, uint32_t year, uint32_t month, uint8_t *out, size_t out_length);
 tc_count_result plain_count_trading_days(uint32_t market, uint32_t start_year, uint32_t start_month, uint32_t start_day,
                                          uint32_t end_year, uint32_t end_month, uint32_t end_day);
+tc_slice_result plain_slice_order(uint32_t market, uint32_t quantity, uint32_t start_year, uint32_t start_month, uint32_t start_day,
+                                  uint32_t end_year, uint32_t end_month, uint32_t end_day, uint32_t *out, size_t out_length);
 tc_hours_result plain_trading_hours(uint32_t market, uint32_t year, uint32_t month, uint32_t day);
 tc_bool_result plain_is_open(uint32_t market, uint32_t year, uint32_t month, uint32_t day, uint32_t time);
 tc_session_result plain_session_new(uint32_t start, uint32_t end);

@@ -7,7 +7,7 @@
 #include <string.h>
 
 /* How many comparisons are meant. */
-enum { MEANT = 94 };
+enum { MEANT = 107 };
 static int compared, differ;
 
 static void is(const char *expression, unsigned long value, unsigned long expected) {
@@ -29,6 +29,7 @@ static void structs(void) {
     IS(sizeof(tc_bool_result), 4 * 5);
     IS(sizeof(tc_trading_day_result), 4 * 6);
     IS(sizeof(tc_count_result), 4 * 5);
+    IS(sizeof(tc_slice_result), 4 * 7);
     IS(sizeof(tc_time_result), 4 * 2);
     IS(sizeof(tc_session_result), 4 * 3);
     IS(sizeof(tc_hours_result), 4 * 14);
@@ -41,9 +42,12 @@ static void structs(void) {
     IS(offsetof(tc_hours, early_close), 4 * 12);
     IS(offsetof(tc_trading_day_result, distance), 4 * 4);
     IS(offsetof(tc_trading_day_result, outside), 4 * 5);
+    IS(offsetof(tc_slice_result, per_day), 4 * 2);
+    IS(offsetof(tc_slice_result, remainder), 4 * 3);
+    IS(offsetof(tc_slice_result, date), 4 * 4);
 }
 
-/* [markets], [weekday-numbers], and lengths that test_ranges.c and test_sheet.c show to be enough. */
+/* [markets], [weekday-numbers], and lengths that test_ranges.c, test_sheet.c and test_slices.c show to be enough. */
 static void codes(void) {
     IS(TC_NYSE, 0);
     IS(TC_NASDAQ, 1);
@@ -59,6 +63,7 @@ static void codes(void) {
     IS(TC_SUNDAY, 6);
     IS(TC_MONTH_BUFFER_LENGTH, 23);
     IS(TC_SHEET_BUFFER_LENGTH, 104);
+    IS(TC_SLICE_BUFFER_LENGTH, 2782);
 }
 
 static void moving_days(void) {
@@ -84,6 +89,19 @@ static void trading_days(void) {
     IS(tc_trading_days_in_month(TC_TSX, 2022, 12, days, sizeof days).count, 21);
     IS(days[20], 30);
     IS(tc_count_trading_days(TC_NYSE, 2025, 1, 1, 2025, 1, 31).count, 21);
+}
+
+/* 23, 24 and 28 December 2026. */
+static void order(void) {
+    uint32_t slices[3];
+    tc_slice_result answer = tc_slice_order(TC_NYSE, 11, 2026, 12, 23, 2026, 12, 28, slices, 3);
+
+    IS(answer.count, 3);
+    IS(answer.per_day, 3);
+    IS(answer.remainder, 2);
+    IS(slices[0], 4);
+    IS(slices[1], 4);
+    IS(slices[2], 3);
 }
 
 static void hours(void) {
@@ -115,6 +133,7 @@ static void sheet(void) {
 static void errors(void) {
     static const tc_session whole = {0, 0};
     uint8_t none = 0;
+    uint32_t slice = 0;
 
     IS(tc_is_trading_day(TC_TSE, 2020, 5, 6).error, TC_OK);
     IS(tc_is_trading_day(TC_TSE, 2031, 1, 1).error, TC_DATE_OUT_OF_RANGE);
@@ -127,6 +146,7 @@ static void errors(void) {
     IS(tc_is_holiday(TC_TSX + 1, 2025, 1, 1).error, TC_UNKNOWN_MARKET);
     IS(tc_trading_days_in_month(TC_LSE, 2025, 1, &none, 0).error, TC_BUFFER_TOO_SMALL);
     IS(tc_month_sheet(&none, 0, &none + 1, 0).error, TC_MALFORMED_TEXT);
+    IS(tc_slice_order(TC_LSE, 1, 2025, 3, 8, 2025, 3, 9, &slice, 0).error, TC_NO_TRADING_DAY_IN_RANGE);
     IS(TC_OK, 0);
     IS(TC_DATE_OUT_OF_RANGE, 1);
     IS(TC_INVALID_DATE_CALCULATION, 2);
@@ -138,6 +158,7 @@ static void errors(void) {
     IS(TC_UNKNOWN_MARKET, 8);
     IS(TC_BUFFER_TOO_SMALL, 9);
     IS(TC_MALFORMED_TEXT, 10);
+    IS(TC_NO_TRADING_DAY_IN_RANGE, 11);
 }
 
 int main(void) {
@@ -145,6 +166,7 @@ int main(void) {
     codes();
     moving_days();
     trading_days();
+    order();
     hours();
     sheet();
     errors();

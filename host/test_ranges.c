@@ -8,15 +8,15 @@
 
 enum call { MONTH, COUNT, UP_TO_23, CALLS };
 
-/* How many edge dates there are, and how many counts of each kind are drawn. */
-enum { EDGES = 40, DRAWN_DATES = 40000, DRAWN_LIMITS = 100000 };
+/* How many counts of each kind are drawn. */
+enum { DRAWN_DATES = 40000, DRAWN_LIMITS = 100000 };
 
 /* The calls and the law, and how many comparisons the loops below make. A month is asked for twice with each length. */
 static tally calls[CALLS] = {
     [MONTH] = {.name = "tc_trading_days_in_month",
                .meant = (8ul * 15 * (14 * 33 + 23 * 3) + 23ul * 23 * 23 * 3 + 12ul * 6) * 2 + 7},
     [COUNT] = {.name = "tc_count_trading_days",
-               .meant = 8ul * EDGES * EDGES + 5ul * 11 * 14 * 33 * 4 + DRAWN_DATES + DRAWN_LIMITS + 12},
+               .meant = EDGE_RANGES + 5ul * 11 * 14 * 33 * 4 + DRAWN_DATES + DRAWN_LIMITS + 12},
     [UP_TO_23] = {.name = "months of up to 23 trading days", .meant = 5ul * 11 * 12},
 };
 
@@ -92,9 +92,6 @@ static void up_to_23(void) {
     }
 }
 
-/* The market, the start and the end. */
-enum { COUNT_INPUTS = 7 };
-
 static tc_count_result count_of(const uint32_t *in) {
     return tc_count_trading_days(in[0], in[1], in[2], in[3], in[4], in[5], in[6]);
 }
@@ -104,35 +101,13 @@ static void count(const numbers in) {
     compare(&calls[COUNT], in, of_count(count_of(n)), of_count(plain_count_trading_days(n[0], n[1], n[2], n[3], n[4], n[5], n[6])));
 }
 
-static void count_between(uint32_t market, tc_date start, tc_date end) {
-    numbers in = {COUNT_INPUTS, {market, start.year, start.month, start.day, end.year, end.month, end.day}};
-    count(in);
-}
-
-/* Around the ends of 2020 to 2030, leap days, a weekend, far outside; then numbers that are no date, inside and outside. */
-static const tc_date edges[EDGES] = {
-    {2019, 12, 30},     {2019, 12, 31},        {2020, 1, 1},          {2020, 1, 2},   {2020, 2, 28},    {2020, 2, 29},
-    {2020, 3, 1},       {2022, 4, 28},         {2022, 5, 9},          {2024, 2, 29},  {2025, 1, 1},     {2025, 1, 31},
-    {2025, 3, 8},       {2025, 3, 9},          {2030, 12, 30},        {2030, 12, 31}, {2031, 1, 1},     {2031, 1, 2},
-    {2019, 1, 1},       {2031, 12, 31},        {1, 1, 1},             {1970, 1, 1},   {9999, 12, 31},   {0, 0, 0},
-    {0, 12, 31},        {2019, 2, 29},         {2025, 0, 1},          {2025, 13, 1},  {2025, 1, 0},     {2025, 1, 32},
-    {2025, 2, 29},      {2024, 2, 30},         {2025, 4, 31},         {2031, 2, 29},  {10000, 1, 1},    {2020, 0, 0},
-    {UINT32_MAX, 1, 1}, {2025, UINT32_MAX, 1}, {2025, 1, UINT32_MAX}, {2030, 12, 32}};
-
-/* All with all, of every market and of codes of none. */
-static void edge_counts(void) {
-    for (int i = 0; i < CODES; i++)
-        for (int a = 0; a < EDGES; a++)
-            for (int b = 0; b < EDGES; b++) count_between(codes[i], edges[a], edges[b]);
-}
-
 /* The date alone; from the 1st of its month, and of its year; and to the 1st of its month, which is empty but for that day. */
 static void counts_of_day(uint32_t market, uint32_t year, uint32_t month, uint32_t day) {
     tc_date date = {year, month, day}, of_month = {year, month, 1}, of_year = {year, 1, 1};
-    count_between(market, date, date);
-    count_between(market, of_month, date);
-    count_between(market, of_year, date);
-    count_between(market, date, of_month);
+    count(range_of(market, date, date));
+    count(range_of(market, of_month, date));
+    count(range_of(market, of_year, date));
+    count(range_of(market, date, of_month));
 }
 
 static void counts_of_days(void) {
@@ -140,25 +115,9 @@ static void counts_of_days(void) {
         for (uint32_t year = 2020; year <= 2030; year++) ask_year(counts_of_day, market, year);
 }
 
-/* A date of 2019 to 2031, or one like 31 February. */
-static tc_date drawn_date(void) {
-    tc_date date = {2019 + drawn() % 13, 1 + drawn() % 12, 1 + drawn() % 31};
-    return date;
-}
-
-/* Any two of these dates. Then two of them with some of the numbers at and past the limits. */
 static void drawn_counts(void) {
-    for (int i = 0; i < DRAWN_DATES; i++) {
-        tc_date start = drawn_date(), end = drawn_date();
-        count_between(drawn() % 5, start, end);
-    }
-    for (int i = 0; i < DRAWN_LIMITS; i++) {
-        tc_date start = drawn_date(), end = drawn_date();
-        numbers in = {COUNT_INPUTS, {drawn() % 5, start.year, start.month, start.day, end.year, end.month, end.day}};
-        for (int place = 0; place < COUNT_INPUTS; place++)
-            if (drawn() % 4 == 0) in.values[place] = limits[drawn() % LIMITS];
-        count(in);
-    }
+    for (int i = 0; i < DRAWN_DATES; i++) count(drawn_range());
+    for (int i = 0; i < DRAWN_LIMITS; i++) count(drawn_limits());
 }
 
 /* [examples], for each market where none is named; the date of error 1; errors 8, 5 and 1 in this order. */
@@ -221,7 +180,7 @@ int main(void) {
     plain_fill();
     all_months();
     up_to_23();
-    edge_counts();
+    ask_edges(count);
     counts_of_days();
     drawn_counts();
     example_counts();

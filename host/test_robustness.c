@@ -23,8 +23,9 @@ static const char how[] = "in threads at the same time";
 #endif
 
 /* The calls are made in blocks, each of which draws from a sequence of its own. A block has so many bursts of each function, and a
- * burst so many calls; if they take lists, on LENGTHS lengths for each text and numbers. */
-enum { BLOCKS = 40, BURSTS = 50, BURST = 25, LENGTHS = 5, WORKERS = 4 };
+ * burst so many calls; if they take lists, on LENGTHS lengths for each text and numbers. A list has up to ROOM entries, more than
+ * any answer takes. */
+enum { BLOCKS = 40, BURSTS = 50, BURST = 25, LENGTHS = 5, ROOM = TC_SLICE_BUFFER_LENGTH + 50, WORKERS = 4 };
 #define MEANT (1ul * BLOCKS * BURSTS * BURST)
 
 /* What one run of the blocks needs and finds, for each function where there are several. */
@@ -80,20 +81,20 @@ static numbers given(const call *of, const input *in) {
     numbers list = {(int)strlen(of->letters), {0}};
     memcpy(list.values, in->values, (size_t)list.count * sizeof list.values[0]);
     if (of->takes_text) list.values[list.count++] = (uint32_t)in->text_length;
-    if (of->takes_out) list.values[list.count++] = (uint32_t)in->out_length;
+    if (of->entry_size != 0) list.values[list.count++] = (uint32_t)in->out_length;
     return list;
 }
 
 /* After the fields of an answer with a list stands whether all other bytes were kept, and here also whether its bytes are those of
  * the plain calendar. */
 static void compare_with_plain(worker *w, int c, numbers answer, size_t written) {
-    static uint8_t plain_out[WINDOW];
+    static uint32_t plain_out[ROOM];
     input in = w->in;
     numbers expected;
 
     in.out = plain_out;
     expected = calls[c].plain(&in);
-    if (calls[c].takes_out) {
+    if (calls[c].entry_size != 0) {
         expected.values[expected.count++] = 1;
         expected.values[expected.count++] = 1;
         answer.values[answer.count++] = memcmp(w->out.list, plain_out, written) == 0;
@@ -102,9 +103,9 @@ static void compare_with_plain(worker *w, int c, numbers answer, size_t written)
 }
 
 /* How many bytes of the list are the answer. */
-static size_t written_bytes(const input *in, numbers answer) {
+static size_t written_bytes(const call *of, const input *in, numbers answer) {
     if (answer.values[0] != TC_OK) return 0;
-    return answer.values[1] < in->out_length ? answer.values[1] : in->out_length;
+    return (answer.values[1] < in->out_length ? answer.values[1] : in->out_length) * of->entry_size;
 }
 
 static numbers ask(worker *w, int c) {
@@ -118,8 +119,8 @@ static numbers ask(worker *w, int c) {
     refused = is_refused(answer);
     w->made[c]++;
     w->refused[c] += (unsigned long)refused;
-    if (of->takes_out) {
-        written = written_bytes(&w->in, answer);
+    if (of->entry_size != 0) {
+        written = written_bytes(of, &w->in, answer);
         digest(&w->digests[c], w->out.list, written);
         answer.values[answer.count++] = is_kept(&w->out, written) && is_kept(&w->text, 0);
     }
@@ -131,8 +132,8 @@ static numbers ask(worker *w, int c) {
 
 static numbers ask_with_lists(worker *w, int c, const uint8_t *text, size_t text_length, size_t out_length) {
     numbers answer;
-    lend(&w->text, text, text_length, &w->sequence);
-    lend(&w->out, NULL, out_length, &w->sequence);
+    lend(&w->text, text, 1, text_length, &w->sequence);
+    lend(&w->out, NULL, calls[c].entry_size, out_length, &w->sequence);
     w->in.text = w->text.list;
     w->in.text_length = text_length;
     w->in.out = w->out.list;
@@ -150,27 +151,27 @@ static size_t draw_text(worker *w, uint8_t *text) {
     uint32_t choice = draw(&w->sequence) % 8, number = draw(&w->sequence);
     uint8_t byte = (uint8_t)(number >> 16);
 
-    memcpy(text + length, w->text.noise, WINDOW - length);
+    memcpy(text + length, w->text.noise, ROOM - length);
     switch (choice) {
     case 0: text[number % length] = byte; return length;
     case 1: return number % length;
     case 2: text[length] = byte; return length + 1;
-    case 3: return number % (WINDOW + 1);
+    case 3: return number % (ROOM + 1);
     default: return length;
     }
 }
 
-/* On no byte, from which the call says how many it takes; then on one too few, just enough, one more, and any number. */
+/* On no entry, from which the call says how many it takes; then on one too few, just enough, one more, and any number. */
 static void ask_on_lengths(worker *w, int c) {
-    uint8_t text[WINDOW];
+    uint8_t text[ROOM];
     size_t text_length, takes = 0;
 
     draw_values(&w->in, &calls[c], 0, &w->sequence);
     text_length = draw_text(w, text);
     for (int i = 0; i < LENGTHS; i++) {
-        const size_t lengths[LENGTHS] = {0, takes == 0 ? 0 : takes - 1, takes, takes + 1, draw(&w->sequence) % (WINDOW + 1)};
+        const size_t lengths[LENGTHS] = {0, takes == 0 ? 0 : takes - 1, takes, takes + 1, draw(&w->sequence) % (ROOM + 1)};
         numbers answer = ask_with_lists(w, c, text, text_length, lengths[i]);
-        if (answer.values[0] == TC_BUFFER_TOO_SMALL && answer.values[1] < WINDOW) takes = answer.values[1];
+        if (answer.values[0] == TC_BUFFER_TOO_SMALL && answer.values[1] < ROOM) takes = answer.values[1];
     }
 }
 
@@ -187,7 +188,7 @@ static void burst_of_numbers(worker *w, int c) {
 }
 
 static void burst(worker *w, int c) {
-    if (calls[c].takes_out)
+    if (calls[c].entry_size != 0)
         burst_on_lists(w, c);
     else
         burst_of_numbers(w, c);
@@ -248,14 +249,14 @@ static void stop_if(int error) {
 
 /* Makes every call, on the last numbers that had an answer, while a call of the thread is under way. */
 static void call_within_call(int number) {
-    uint8_t out[TC_SHEET_BUFFER_LENGTH];
+    uint32_t out[TC_SLICE_BUFFER_LENGTH];
     (void)number;
     for (int c = 0; c < CALLS; c++) {
         input in = answered[c];
         in.text = (const uint8_t *)example_text;
         in.text_length = strlen(example_text);
         in.out = out;
-        in.out_length = sizeof out;
+        in.out_length = LENGTH(out);
         calls[c].library(&in);
     }
 }

@@ -32,11 +32,13 @@ enum {
     TC_TIME_OUT_OF_RANGE = 7,        /* time: it is not 0 to 86399 */
     TC_UNKNOWN_MARKET = 8,           /* market: it is not 0 to 4 */
     TC_BUFFER_TOO_SMALL = 9,         /* buffer: the answer does not fit */
-    TC_MALFORMED_TEXT = 10           /* text: it is not of the form */
+    TC_MALFORMED_TEXT = 10,          /* text: it is not of the form */
+    TC_NO_TRADING_DAY_IN_RANGE = 11  /* date range: none of its days trades */
 };
 
-/* How many bytes are enough for the trading days of any month, and for any month sheet. */
-enum { TC_MONTH_BUFFER_LENGTH = 23, TC_SHEET_BUFFER_LENGTH = 104 };
+/* How many bytes are enough for the trading days of any month, and for any month sheet; how many entries for the slices of any
+ * order. */
+enum { TC_MONTH_BUFFER_LENGTH = 23, TC_SHEET_BUFFER_LENGTH = 104, TC_SLICE_BUFFER_LENGTH = 2782 };
 
 /* A Gregorian date of the years 1 to 9999 [date], or 0, 0, 0 in an answer without one. */
 typedef struct {
@@ -94,6 +96,13 @@ typedef struct {
     tc_date date;
 } tc_count_result;
 
+/* count is how many trading days there are, per_day how many shares each carries, remainder how many are left, of which the first
+ * days carry one each, and date is 0. With error 9 count is how many entries the slices take. With error 1 date is the start. */
+typedef struct {
+    uint32_t error, count, per_day, remainder;
+    tc_date date;
+} tc_slice_result;
+
 /* seconds is a time. */
 typedef struct {
     uint32_t error, seconds;
@@ -146,6 +155,15 @@ tc_count_result tc_trading_days_in_month(uint32_t market, uint32_t year, uint32_
  * 8 market, 5 date, 1 year, and that only if the start's is below 2020 or the end's above 2030. */
 tc_count_result tc_count_trading_days(uint32_t market, uint32_t start_year, uint32_t start_month, uint32_t start_day,
                                       uint32_t end_year, uint32_t end_month, uint32_t end_day);
+
+/* Slices an order over the trading days of the market from the start to the end, both included [slice-order]. Writes the slices
+ * from the start of out, one entry for each day: the shares per day, and on the first days one more until the remainder is spent, so
+ * that they add up to the quantity, which may be 0 [slices] [slice-laws]. out_length counts entries, of which TC_SLICE_BUFFER_LENGTH
+ * are enough. out is not null, also if out_length is 0 [host-calls]. Entries past the slices stay as they were, and with an error
+ * all do [error-writes-nothing]. Errors: 8 market, 5 date, 1 year as with the count, 11 date range, also if the start is after the
+ * end, 9 buffer. */
+tc_slice_result tc_slice_order(uint32_t market, uint32_t quantity, uint32_t start_year, uint32_t start_month, uint32_t start_day,
+                               uint32_t end_year, uint32_t end_month, uint32_t end_day, uint32_t *out, size_t out_length);
 
 /* The hours of the market on a date of any year, be it a trading day or not [trading-hours]. On an early close of the US
  * [early-close] regular.end stays, early_close is set, and after_hours begin with it; tc_market_close gives the close. The exchange's

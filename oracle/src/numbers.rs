@@ -1,4 +1,4 @@
-//! Inputs and answers of the calls about hours, month lists and counts as lists of numbers.
+//! Inputs and answers of the calls about hours, month lists, counts and slices as lists of numbers.
 
 use crate::library::*;
 use std::collections::BTreeSet;
@@ -80,6 +80,18 @@ pub fn of_bool(BoolResult { error, value, date }: BoolResult) -> Numbers {
 
 pub fn of_count(CountResult { error, count, date }: CountResult) -> Numbers {
     vec![error, count, date.year, date.month, date.day]
+}
+
+pub fn of_slices(answer: SliceResult) -> Numbers {
+    let Date { year, month, day } = answer.date;
+    let SliceResult {
+        error,
+        count,
+        per_day,
+        remainder,
+        ..
+    } = answer;
+    vec![error, count, per_day, remainder, year, month, day]
 }
 
 pub fn of_time(TimeResult { error, seconds }: TimeResult) -> Numbers {

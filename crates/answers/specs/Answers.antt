@@ -12,10 +12,12 @@ use Rattle.error.specs.declared.CountResult.{CountResult}
 use Rattle.error.specs.declared.TimeResult.{TimeResult}
 use Rattle.error.specs.Errors.{errorNumber, errorDate, errorCount}
 use Rattle.range_calls.specs.declared.TradingDayResult.{TradingDayResult}
+use Rattle.orders.specs.declared.SliceResult.{SliceResult}
 use Rattle.answers.specs.declared.OptionalDate.{OptionalDate}
 use Rattle.answers.specs.declared.BoolAnswer.{BoolAnswer}
 use Rattle.answers.specs.declared.neighbours.TradingDayAnswer.{TradingDayAnswer}
 use Rattle.answers.specs.declared.counts.CountAnswer.{CountAnswer}
+use Rattle.answers.specs.declared.slices.SliceAnswer.{SliceAnswer}
 use Rattle.answers.specs.declared.trading_hours.TimeAnswer.{TimeAnswer}
 use Rattle.answers.specs.declared.trading_hours.SessionAnswer.{SessionAnswer}
 use Rattle.answers.specs.declared.trading_hours.HoursAnswer.{HoursAnswer}
@@ -47,6 +49,11 @@ tradingDayAnswer (TradingDayResult.Err e) = record { error = errorNumber e; date
 unfoldable pub countAnswer : CountResult → CountAnswer
 countAnswer (CountResult.Ok n) = record { error = 0; count = n; date = noDate }
 countAnswer (CountResult.Err e) = record { error = errorNumber e; count = errorCount e; date = errorDate e }
+
+-- The same for an order: without an error, over how many days, the shares of each, and the remainder.
+unfoldable pub sliceAnswer : SliceResult → SliceAnswer
+sliceAnswer (SliceResult.Ok count perDay remainder) = record { error = 0; count = count; «per_day» = perDay; remainder = remainder; date = noDate }
+sliceAnswer (SliceResult.Err e) = record { error = errorNumber e; count = errorCount e; «per_day» = 0; remainder = 0; date = errorDate e }
 
 -- Without an error, the value; an error has its number, and every other field is 0.
 unfoldable pub timeAnswer : TimeResult → TimeAnswer

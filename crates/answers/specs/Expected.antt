@@ -7,6 +7,7 @@ use Rattle.answers.specs.declared.OptionalDate.{OptionalDate}
 use Rattle.answers.specs.declared.BoolAnswer.{BoolAnswer}
 use Rattle.answers.specs.declared.neighbours.TradingDayAnswer.{TradingDayAnswer}
 use Rattle.answers.specs.declared.counts.CountAnswer.{CountAnswer}
+use Rattle.answers.specs.declared.slices.SliceAnswer.{SliceAnswer}
 
 -- ---- without an error
 
@@ -27,6 +28,10 @@ foundDay t distance mark = record { error = 0; date = t; distance = distance; ou
 abbrev pub counted : ℕ → CountAnswer
 counted n = record { error = 0; count = n; date = noDate }
 
+-- an order over so many days, with its shares per day and its remainder
+abbrev pub slicedOver : ℕ → ℕ → ℕ → SliceAnswer
+slicedOver count perDay remainder = record { error = 0; count = count; «per_day» = perDay; remainder = remainder; date = noDate }
+
 -- ---- with one
 
 -- error 1, with the date that it returns
@@ -36,3 +41,7 @@ outOfRange t = record { error = 1; count = 0; date = t }
 -- error 9, with the number of entries needed
 abbrev pub tooSmall : ℕ → CountAnswer
 tooSmall n = record { error = 9; count = n; date = noDate }
+
+-- an error of an order, with the number that error 9 returns and the date that error 1 does
+abbrev pub notSliced : ℕ → ℕ → Date → SliceAnswer
+notSliced error count t = record { error = error; count = count; «per_day» = 0; remainder = 0; date = t }

@@ -3,6 +3,7 @@
 pub mod counts;
 pub mod neighbours;
 pub mod records;
+pub mod slices;
 pub mod trading_hours;
 
 ghost use mathlib.Core.Path.{_≡_};

@@ -42,6 +42,14 @@ overwrite-byte bytes buffer b n e h =
     let h' : length bytes < length buffer = omega arith in
     rw (drop-cons buffer (length bytes) 0 h', set-at bytes _ _ b n e, length-append, append-assoc, add-one) refl
 
+-- a part, `&mut out[a..e]`, right after what was written
+pub overwrite-part : (entries part buffer : List ℕ) (a e : ℕ) → length entries ≡ a → length part ≡ e - a
+    → putMid a (e - a) (overwrite entries buffer) part ≡ overwrite (entries ++ part) buffer
+unfolding overwrite
+overwrite-part entries part buffer a e n m =
+    let left = drop (length entries) buffer in
+    rw (take-at entries left a n, drop-at entries left a n, ← m, drop-drop, length-append, append-assoc) refl
+
 -- Bytes are written, and then more into what is left of the buffer, `&mut out[n..]`, which is lent on.
 module _ (bytes more text buffer : List ℕ) (whole : text ≡ bytes ++ more) (fits : length text ≤ length buffer) where
   lengths : length text ≡ length bytes + length more

@@ -4,11 +4,11 @@ use Prim.Native.Nat.{_≤_}
 use native.Mathlib.Omega.{arith}
 use Rattle.error.specs.declared.CalendarError.{CalendarError}
 use Rattle.error.specs.declared.CalendarError.the-variants.{MalformedText, UnknownMarket, InvalidDate, TimeOutOfRange, DateOutOfRange}
-use Rattle.error.specs.declared.CalendarError.the-variants.{InvalidDateCalculation, NoTradingDayFound, BufferTooSmall, InvalidSession, InvalidTime}
+use Rattle.error.specs.declared.CalendarError.the-variants.{InvalidDateCalculation, NoTradingDayFound, NoTradingDayInRange, BufferTooSmall, InvalidSession, InvalidTime}
 use Rattle.error.specs.Errors.{errorFields, errorNumber}
 
 -- the number of an error, which is never that of none
-pub error-number : (e : CalendarError) → (1 ≤ errorNumber e) × (errorNumber e ≤ 10)
+pub error-number : (e : CalendarError) → (1 ≤ errorNumber e) × (errorNumber e ≤ 11)
 unfolding errorFields
 error-number MalformedText = omega arith
 error-number UnknownMarket = omega arith
@@ -17,6 +17,7 @@ error-number TimeOutOfRange = omega arith
 error-number (DateOutOfRange t) = omega arith
 error-number InvalidDateCalculation = omega arith
 error-number NoTradingDayFound = omega arith
+error-number NoTradingDayInRange = omega arith
 error-number (BufferTooSmall needed) = omega arith
 error-number InvalidSession = omega arith
 error-number InvalidTime = omega arith

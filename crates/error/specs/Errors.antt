@@ -4,7 +4,7 @@ use Rattle.gregorian.specs.declared.Date.{Date}
 use Rattle.gregorian.specs.Calendar.{noDate}
 use Rattle.error.specs.declared.ErrorFields.{ErrorFields}
 use Rattle.error.specs.declared.CalendarError.{CalendarError}
-use Rattle.error.specs.declared.CalendarError.the-variants.{MalformedText, UnknownMarket, InvalidDate, TimeOutOfRange, DateOutOfRange, InvalidDateCalculation, NoTradingDayFound, BufferTooSmall, InvalidSession, InvalidTime}
+use Rattle.error.specs.declared.CalendarError.the-variants.{MalformedText, UnknownMarket, InvalidDate, TimeOutOfRange, DateOutOfRange, InvalidDateCalculation, NoTradingDayFound, NoTradingDayInRange, BufferTooSmall, InvalidSession, InvalidTime}
 
 -- an error with which nothing is returned
 abbrev pub onlyNumber : ℕ → ErrorFields
@@ -20,6 +20,7 @@ errorFields TimeOutOfRange = onlyNumber 7
 errorFields (DateOutOfRange t) = record { number = 1; count = 0; date = t }
 errorFields InvalidDateCalculation = onlyNumber 2
 errorFields NoTradingDayFound = onlyNumber 6
+errorFields NoTradingDayInRange = onlyNumber 11
 errorFields (BufferTooSmall needed) = record { number = 9; count = needed; date = noDate }
 errorFields InvalidSession = onlyNumber 3
 errorFields InvalidTime = onlyNumber 4

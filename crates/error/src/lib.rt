@@ -4,8 +4,8 @@ ghost use Rattle.error.specs.Errors.{onlyNumber, errorFields};
 use gregorian::Date;
 use gregorian::NO_DATE;
 
-// In the order of [errors]. The first four are added, as the Rust has no month sheet and its types no such market, date or time; and
-// so is BufferTooSmall, which holds the number of entries that the answer takes.
+// In the order of [errors]. The first four are added, as the Rust has no month sheet and its types no such market, date or time; so
+// are NoTradingDayInRange, as it slices no orders, and BufferTooSmall, which holds the number of entries that the answer takes.
 pub enum CalendarError {
     MalformedText,
     UnknownMarket,
@@ -14,6 +14,7 @@ pub enum CalendarError {
     DateOutOfRange(Date),
     InvalidDateCalculation,
     NoTradingDayFound,
+    NoTradingDayInRange,
     BufferTooSmall(u32),
     InvalidSession,
     InvalidTime,
@@ -69,6 +70,7 @@ pub fn fields(e: CalendarError) -> ErrorFields
         },
         CalendarError::InvalidDateCalculation => only_number(2),
         CalendarError::NoTradingDayFound => only_number(6),
+        CalendarError::NoTradingDayInRange => only_number(11),
         CalendarError::BufferTooSmall(needed) => ErrorFields {
             number: 9,
             count: needed,

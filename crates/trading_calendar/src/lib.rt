@@ -2,6 +2,7 @@
 pub mod neighbours;
 pub mod ranges;
 pub mod sheets;
+pub mod slices;
 pub mod trading_hours;
 
 ghost use mathlib.Core.Path.{_≡_};

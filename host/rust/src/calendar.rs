@@ -24,6 +24,17 @@ pub struct TradingDay {
     pub outside: bool,
 }
 
+/// Added: an order sliced over the trading days of a date range `[slice-order]`.
+#[derive(Debug, Clone, Copy, PartialEq, Eq, Hash)]
+pub struct Slices {
+    /// How many trading days there are, 1 or more, with a slice for each
+    pub count: usize,
+    /// The shares of each day, before the remainder is spent
+    pub per_day: u32,
+    /// How many shares are left, fewer than there are days: so many of the first days carry one share more
+    pub remainder: u32,
+}
+
 impl TradingCalendar {
     /// Always `Ok`: a `Result` as in the original.
     pub fn new(market: Market) -> Result<Self> {
@@ -187,6 +198,64 @@ impl TradingCalendar {
         let (market, end) = (self.market.number(), ffi::Date::from(end));
         let ffi::Date { year, month, day } = start.into();
         call(market, year, month, day, end.year, end.month, end.day).answered()
+    }
+
+    /// Added: slices an order of so many shares over the trading days from the start to the end, both included: the same shares each
+    /// day, and one more on the first days until the remainder is spent `[slice-order]`. The slices are written from the start of the
+    /// buffer, one for each day in order, and add up to the order. Entries past them stay as they were, and with an error all do.
+    ///
+    /// # Errors
+    ///
+    /// `DateOutOfRange` as in `count_trading_days`; `NoTradingDayInRange` if that counts 0; `BufferTooSmall`, with the count, if the
+    /// buffer has fewer entries: the first that applies.
+    ///
+    /// ```
+    /// use trading_calendar::{Market, NaiveDate, TradingCalendar};
+    ///
+    /// let nyse = TradingCalendar::new(Market::NYSE)?;
+    /// let start = NaiveDate::from_ymd_opt(2025, 12, 22).unwrap();
+    /// let end = NaiveDate::from_ymd_opt(2025, 12, 28).unwrap();
+    /// let mut shares = [0; 5];
+    /// let slices = nyse.slice_order(1002, start, end, &mut shares)?;
+    /// assert_eq!((slices.count, slices.per_day, slices.remainder), (4, 250, 2));
+    /// assert_eq!(shares, [251, 251, 250, 250, 0]); // Christmas is between the third and the fourth
+    /// # Ok::<(), trading_calendar::CalendarError>(())
+    /// ```
+    pub fn slice_order(
+        &self,
+        quantity: u32,
+        start: NaiveDate,
+        end: NaiveDate,
+        out: &mut [u32],
+    ) -> Result<Slices> {
+        let market = self.market.number();
+        ffi::slice_order(market, quantity, start.into(), end.into(), out).answered()
+    }
+
+    /// Added: the slices of `slice_order` as a list of just their length, with the same errors but `BufferTooSmall`.
+    ///
+    /// ```
+    /// use trading_calendar::{CalendarError, Market, NaiveDate, TradingCalendar};
+    ///
+    /// let nyse = TradingCalendar::new(Market::NYSE)?;
+    /// let start = NaiveDate::from_ymd_opt(2025, 12, 22).unwrap();
+    /// let end = NaiveDate::from_ymd_opt(2025, 12, 28).unwrap();
+    /// assert_eq!(nyse.slice_order_to_vec(1002, start, end)?, [251, 251, 250, 250]);
+    ///
+    /// let saturday = NaiveDate::from_ymd_opt(2025, 12, 27).unwrap();
+    /// let error = nyse.slice_order_to_vec(1002, saturday, end).unwrap_err();
+    /// assert_eq!(error, CalendarError::NoTradingDayInRange);
+    /// # Ok::<(), CalendarError>(())
+    /// ```
+    pub fn slice_order_to_vec(
+        &self,
+        quantity: u32,
+        start: NaiveDate,
+        end: NaiveDate,
+    ) -> Result<Vec<u32>> {
+        let mut slices = vec![0; self.count_trading_days(start, end)?];
+        self.slice_order(quantity, start, end, &mut slices)?;
+        Ok(slices)
     }
 
     /// Added: the sheet of a month as text `[sheet-output]`, with the errors of `trading_days_in_month`. [`sheet::month_sheet`]

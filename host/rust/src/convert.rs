@@ -1,7 +1,7 @@
 //! Between the types of this crate and the numbers of the calls. The dates and times of an answer are proved to be some, and so
 //! are not checked again.
 
-use crate::calendar::TradingDay;
+use crate::calendar::{Slices, TradingDay};
 use crate::{ffi, CalendarError, NaiveDate, NaiveTime, Result, Session, TradingHours};
 
 /// A negative year is asked for as the year 0, which the calls answer in the same way: it is not 1 to 9999.
@@ -105,6 +105,17 @@ impl ffi::BoolResult {
 impl ffi::CountResult {
     pub(crate) fn answered(self) -> Result<usize> {
         checked(self.error, self.count, self.date, self.count as usize)
+    }
+}
+
+impl ffi::SliceResult {
+    pub(crate) fn answered(self) -> Result<Slices> {
+        let slices = Slices {
+            count: self.count as usize,
+            per_day: self.per_day,
+            remainder: self.remainder,
+        };
+        checked(self.error, self.count, self.date, slices)
     }
 }
 

@@ -6,8 +6,8 @@ use std::fmt;
 /// The original's errors, and those that were added.
 #[derive(Debug, Clone, PartialEq, Eq)]
 pub enum CalendarError {
-    /// Not every date asked for is in 2020 to 2030; with the date given, the start of a count or the 1st of a month `[year-check]`
-    /// `[month-list]` `[count]`.
+    /// Not every date asked for is in 2020 to 2030; with the date given, the start of a date range or the 1st of a month
+    /// `[year-check]` `[month-list]` `[count]`.
     DateOutOfRange(NaiveDate),
     /// An early close that is not before the regular end `[with-early-close]`.
     InvalidTime(String),
@@ -25,10 +25,12 @@ pub enum CalendarError {
     InvalidDate,
     /// Added: a number that is no second of the day `[time]`.
     TimeOutOfRange,
-    /// Added: the answer takes so many bytes, which is more than the buffer has.
+    /// Added: the answer takes so many entries, which is more than the buffer has: bytes for a month sheet, numbers for slices.
     BufferTooSmall(usize),
     /// Added: the text does not ask for a month sheet `[sheet-input]`.
     MalformedText,
+    /// Added: there is no trading day in the date range over which an order is to be sliced `[slice-order]`.
+    NoTradingDayInRange,
 }
 
 /// The answer of a call, or its error.
@@ -48,6 +50,7 @@ impl CalendarError {
             CalendarError::UnknownMarket => 8,
             CalendarError::BufferTooSmall(_) => 9,
             CalendarError::MalformedText => 10,
+            CalendarError::NoTradingDayInRange => 11,
             CalendarError::InvalidConfiguration(_) => return None,
         };
         Some(number)
@@ -69,6 +72,7 @@ impl CalendarError {
             8 => CalendarError::UnknownMarket,
             9 => CalendarError::BufferTooSmall(count as usize),
             10 => CalendarError::MalformedText,
+            11 => CalendarError::NoTradingDayInRange,
             other => CalendarError::InvalidConfiguration(format!("the library gave error {other}")),
         }
     }
@@ -93,10 +97,15 @@ impl fmt::Display for CalendarError {
             CalendarError::UnknownMarket => f.write_str("there is no such market"),
             CalendarError::InvalidDate => f.write_str("there is no such date"),
             CalendarError::TimeOutOfRange => f.write_str("the time is no second of the day"),
-            CalendarError::BufferTooSmall(needed) => write!(f, "the answer takes {needed} bytes"),
+            CalendarError::BufferTooSmall(needed) => {
+                write!(f, "the answer takes {needed} entries of the buffer")
+            }
             CalendarError::MalformedText => f.write_str(
                 "the text is not the lines market=, year= and month= with a number each",
             ),
+            CalendarError::NoTradingDayInRange => {
+                f.write_str("there is no trading day in the date range")
+            }
         }
     }
 }
@@ -110,10 +119,10 @@ mod tests {
     #[test]
     fn numbers_of_errors_go_both_ways_and_others_are_shown() {
         let answered = |error| CalendarError::answered(error, 0, NaiveDate::MIN.into());
-        for error in 1..=10 {
+        for error in 1..=11 {
             assert_eq!(answered(error).number(), Some(error));
         }
-        let other = CalendarError::InvalidConfiguration("the library gave error 11".to_string());
-        assert_eq!(answered(11), other);
+        let other = CalendarError::InvalidConfiguration("the library gave error 12".to_string());
+        assert_eq!(answered(12), other);
     }
 }

@@ -42,6 +42,16 @@ pub struct CountResult {
 
 #[repr(C)]
 #[derive(Clone, Copy, Debug, Default, PartialEq, Eq)]
+pub struct SliceResult {
+    pub error: u32,
+    pub count: u32,
+    pub per_day: u32,
+    pub remainder: u32,
+    pub date: Date,
+}
+
+#[repr(C)]
+#[derive(Clone, Copy, Debug, Default, PartialEq, Eq)]
 pub struct Session {
     pub start: u32,
     pub end: u32,
@@ -89,6 +99,31 @@ pub type OnDate<T> = extern "C" fn(u32, u32, u32, u32) -> T;
 #[inline]
 pub fn trading_days_in_month(market: u32, year: u32, month: u32, out: &mut [u8]) -> CountResult {
     unsafe { tc_trading_days_in_month(market, year, month, out.as_mut_ptr(), out.len()) }
+}
+
+/// Takes the start and the end as dates; the list is lent as above.
+#[inline]
+pub fn slice_order(
+    market: u32,
+    quantity: u32,
+    start: Date,
+    end: Date,
+    out: &mut [u32],
+) -> SliceResult {
+    unsafe {
+        tc_slice_order(
+            market,
+            quantity,
+            start.year,
+            start.month,
+            start.day,
+            end.year,
+            end.month,
+            end.day,
+            out.as_mut_ptr(),
+            out.len(),
+        )
+    }
 }
 
 /// Two slices of which one is changed do not overlap, as [host-calls] asks.
@@ -139,6 +174,18 @@ unsafe extern "C" {
         out: *mut u8,
         out_length: usize,
     ) -> CountResult;
+    fn tc_slice_order(
+        market: u32,
+        quantity: u32,
+        start_year: u32,
+        start_month: u32,
+        start_day: u32,
+        end_year: u32,
+        end_month: u32,
+        end_day: u32,
+        out: *mut u32,
+        out_length: usize,
+    ) -> SliceResult;
     fn tc_month_sheet(
         text: *const u8,
         text_length: usize,

@@ -33,9 +33,9 @@
 //! | `HolidayCache`, `Holiday`, the feature `serialization` | not there `[left-out]` |
 //! | `MarketImpl` with the types behind it, `constants` | not there: the rules are in the library, and `trading_hours` gives the times |
 //!
-//! Added are `is_open`, `next_trading_day_with_distance`, `previous_trading_day_with_distance` and `month_sheet` of a calendar,
-//! `Market::ALL` and `Market::number`, `CalendarError::number`, and `try_from` for a market from its number, a time from its second and a
-//! date from an `ffi::Date`.
+//! Added are `is_open`, `next_trading_day_with_distance`, `previous_trading_day_with_distance`, `slice_order`, `slice_order_to_vec` and
+//! `month_sheet` of a calendar, `Market::ALL` and `Market::number`, `CalendarError::number`, and `try_from` for a market from its number, a
+//! time from its second and a date from an `ffi::Date`.
 //!
 //! Nothing here panics. A date, a time and a market are valid once they are made, so errors 5, 7 and 8 of `[errors]` come from
 //! `try_from`, and from the calls on numbers in [`ffi`].
@@ -61,14 +61,14 @@ pub mod sheet;
 mod time;
 pub mod utils;
 
-pub use calendar::{TradingCalendar, TradingDay};
+pub use calendar::{Slices, TradingCalendar, TradingDay};
 pub use date::{NaiveDate, Weekday};
 pub use error::{CalendarError, Result};
 pub use markets::Market;
 pub use schedule::{Session, TradingHours};
 pub use time::NaiveTime;
 
-/// The first year in which `is_trading_day`, `is_holiday`, `is_open`, month lists and counts answer.
+/// The first year in which `is_trading_day`, `is_holiday`, `is_open`, month lists, counts and slices answer.
 pub const MIN_YEAR: i32 = 2020;
 /// The last such year.
 pub const MAX_YEAR: i32 = 2030;

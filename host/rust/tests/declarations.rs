@@ -76,6 +76,7 @@ fn rust_type(c_type: &str) -> String {
         "uint8_t" => "u8".to_string(),
         "size_t" => "usize".to_string(),
         "uint8_t *" => "*mut u8".to_string(),
+        "uint32_t *" => "*mut u32".to_string(),
         "const uint8_t *" => "*const u8".to_string(),
         name => name.split('_').skip(1).map(capitalized).collect(),
     }

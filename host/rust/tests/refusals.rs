@@ -32,6 +32,10 @@ fn outside_2020_to_2030() {
     let count = nyse().count_trading_days(last, after);
     assert_eq!(count, Err(DateOutOfRange(last)));
     assert_eq!(nyse().count_trading_days(after, last), Ok(0));
+    let slices = nyse().slice_order_to_vec(100, last, after);
+    assert_eq!(slices, Err(DateOutOfRange(last)));
+    let slices = nyse().slice_order_to_vec(100, after, last);
+    assert_eq!(slices, Err(NoTradingDayInRange));
 }
 
 /// [month-error-date]: also for years and months that only the type of the number has.
@@ -100,8 +104,45 @@ fn a_buffer_that_is_too_small_stays_as_it_was() {
     assert_eq!(tsx.month_sheet(2022, 12).unwrap().as_bytes(), sheet);
 }
 
+/// Where an error can come with later ones, it is the first. None changes the buffer.
+#[test]
+fn errors_of_slices_in_their_order() {
+    let [no_date, before, monday, friday, saturday, after, late] = [
+        (2019, 2, 29),
+        (2019, 1, 1),
+        (2025, 3, 3),
+        (2025, 3, 7),
+        (2025, 3, 8),
+        (2031, 1, 1),
+        (2031, 1, 2),
+    ]
+    .map(|(year, month, day)| ffi::Date { year, month, day });
+    let none = ffi::Date::default();
+    let due = [
+        ((5, no_date, after), (8, 0, none)),
+        ((0, no_date, after), (5, 0, none)),
+        ((0, after, no_date), (5, 0, none)),
+        ((0, late, after), (1, 0, late)),
+        ((0, before, monday), (1, 0, before)),
+        ((0, friday, monday), (11, 0, none)),
+        ((0, saturday, saturday), (11, 0, none)),
+        ((0, monday, friday), (9, 5, none)),
+    ];
+    let mut out = [7; 4];
+    for ((market, start, end), (error, count, date)) in due {
+        let due = ffi::SliceResult {
+            error,
+            count,
+            date,
+            ..Default::default()
+        };
+        let answer = ffi::slice_order(market, 100, start, end, &mut out);
+        assert_eq!((answer, out), (due, [7; 4]));
+    }
+}
+
 /// One of each variant, from the call that gives it.
-fn one_of_each() -> [CalendarError; 11] {
+fn one_of_each() -> [CalendarError; 12] {
     let session = Session {
         start: time(9),
         end: time(16),
@@ -118,6 +159,9 @@ fn one_of_each() -> [CalendarError; 11] {
         Market::try_from(5).unwrap_err(),
         month_sheet(b"market=0\nyear=2025\nmonth=1\n", &mut []).unwrap_err(),
         month_sheet(b"", &mut []).unwrap_err(),
+        nyse()
+            .slice_order_to_vec(100, date(2025, 12, 25), date(2025, 12, 25))
+            .unwrap_err(),
         "FTSE".parse::<Market>().unwrap_err(),
     ]
 }
@@ -125,11 +169,11 @@ fn one_of_each() -> [CalendarError; 11] {
 #[test]
 fn each_error_has_its_number_and_a_text_of_its_own() {
     let errors = one_of_each();
-    let due = [1, 2, 3, 4, 5, 6, 7, 8, 9, 10].map(Some);
-    assert_eq!(errors.each_ref().map(CalendarError::number)[..10], due);
-    assert_eq!(errors[10].number(), None);
+    let due = [1, 2, 3, 4, 5, 6, 7, 8, 9, 10, 11].map(Some);
+    assert_eq!(errors.each_ref().map(CalendarError::number)[..11], due);
+    assert_eq!(errors[11].number(), None);
     assert!(matches!(errors[3], InvalidTime(_)));
-    assert!(matches!(errors[10], InvalidConfiguration(_)));
+    assert!(matches!(errors[11], InvalidConfiguration(_)));
     let text = |error: &CalendarError| (error as &dyn Error).to_string();
     let texts: BTreeSet<String> = errors.iter().map(text).collect();
     assert_eq!(texts.len(), errors.len());

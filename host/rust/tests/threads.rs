@@ -9,6 +9,7 @@ const fn is_shared<T: Send + Sync + Copy>() {}
 const _: () = is_shared::<TradingCalendar>();
 const _: () = is_shared::<TradingHours>();
 const _: () = is_shared::<TradingDay>();
+const _: () = is_shared::<Slices>();
 
 /// The errors too, though they are not copied.
 const fn is_sent<T: Send + Sync>() {}

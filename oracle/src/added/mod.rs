@@ -6,6 +6,7 @@ pub mod hours;
 mod malformed;
 pub mod ranges;
 pub mod sheets;
+pub mod slices;
 
 use crate::call::{catch_panic, Answer, Call, Input};
 use crate::tally::Tally;

@@ -11,8 +11,8 @@ use std::slice;
 const ROOMS: &[u32] = &[0, 1, 22, 31];
 /// Years in which a month has error 1, and dates with which a count may have it.
 pub const OTHER_YEARS: &[u32] = &[1, 1970, 2019, 2031, 9999];
-const OTHER_DATES: &[[u32; 3]] = &[[1, 1, 1], [2019, 12, 31], [2031, 1, 1], [9999, 12, 31]];
-const SOME_DATES: &[[u32; 3]] = &[[2020, 1, 1], [2025, 11, 28], [2030, 12, 31]];
+pub const OTHER_DATES: &[[u32; 3]] = &[[1, 1, 1], [2019, 12, 31], [2031, 1, 1], [9999, 12, 31]];
+pub const SOME_DATES: &[[u32; 3]] = &[[2020, 1, 1], [2025, 11, 28], [2030, 12, 31]];
 
 /// Whether all is right.
 pub fn run() -> bool {
@@ -62,34 +62,43 @@ fn too_little_room() -> Vec<Numbers> {
 
 fn counts() -> bool {
     let call = RangeCall::CountTradingDays;
+    wrong_ranges(call, ["5 and 1", "1"], |ranges| ranges)
+}
+
+/// Errors 8 and 5 of a call on date ranges, each alone and before the later errors.
+pub fn wrong_ranges(
+    call: impl OnNumbers,
+    [after_8, after_5]: [&str; 2],
+    inputs: impl Fn(Vec<Numbers>) -> Vec<Numbers>,
+) -> bool {
+    let error = |number, name: &str, ranges| error(call, number, name, inputs(ranges));
     let all = [SOME_DATES, OTHER_DATES, NO_DATES].concat();
     let no_market = |dates: &[[u32; 3]]| between(NO_MARKETS, dates, dates);
-    let [start, end, both] = [
+    let [market, start, end, both] = [
+        "a market above 4",
         "a start that is no date",
         "an end that is no date",
         "two that are no dates",
     ];
-    error(call, 8, "a market above 4", no_market(SOME_DATES))
-        & error(call, 8, "a market above 4, before 5 and 1", no_market(&all))
-        & error(call, 5, start, between(MARKETS, NO_DATES, SOME_DATES))
-        & error(call, 5, end, between(MARKETS, SOME_DATES, NO_DATES))
-        & error(call, 5, both, between(MARKETS, NO_DATES, NO_DATES))
+    error(8, market, no_market(SOME_DATES))
+        & error(8, &format!("{market}, before {after_8}"), no_market(&all))
+        & error(5, start, between(MARKETS, NO_DATES, SOME_DATES))
+        & error(5, end, between(MARKETS, SOME_DATES, NO_DATES))
+        & error(5, both, between(MARKETS, NO_DATES, NO_DATES))
         & error(
-            call,
             5,
-            &format!("{start}, before 1"),
+            &format!("{start}, before {after_5}"),
             between(MARKETS, NO_DATES, OTHER_DATES),
         )
         & error(
-            call,
             5,
-            &format!("{end}, before 1"),
+            &format!("{end}, before {after_5}"),
             between(MARKETS, OTHER_DATES, NO_DATES),
         )
 }
 
 /// Each market with each start and each end.
-fn between(markets: &[u32], starts: &[[u32; 3]], ends: &[[u32; 3]]) -> Vec<Numbers> {
+pub fn between(markets: &[u32], starts: &[[u32; 3]], ends: &[[u32; 3]]) -> Vec<Numbers> {
     let counts = markets.iter().flat_map(|&market| {
         starts.iter().flat_map(move |start| {
             ends.iter()
@@ -106,7 +115,7 @@ pub fn all_of(lists: &[&[u32]]) -> Vec<Numbers> {
         .fold(vec![vec![]], |inputs, list| with_each(list, &inputs))
 }
 
-fn error(call: RangeCall, number: u32, name: &str, inputs: Vec<Numbers>) -> bool {
+pub fn error(call: impl OnNumbers, number: u32, name: &str, inputs: Vec<Numbers>) -> bool {
     let title = format!("{}, error {number} for {name}", call.name());
     check(call, title, &inputs, |input| call.error(number, input))
 }

@@ -10,15 +10,17 @@
 
 mod dates;
 mod days;
+mod filling;
 mod hours;
 mod overhead;
 mod parts;
 #[cfg(quantlib)]
 mod quantlib;
-mod ranges;
+pub mod ranges;
 mod report;
 mod sessions;
 mod sheets;
+mod slices;
 mod summary;
 mod times;
 
@@ -35,6 +37,8 @@ pub fn run(rounds: usize) -> bool {
     days::run(&mut report, &days);
     parts::run(rounds, &days.original);
     ranges::run(&mut report);
+    slices::run(&mut report);
+    filling::run(rounds);
     sessions::run(&mut report);
     hours::run(&mut report, &days);
     sheets::run(&mut report);

@@ -28,6 +28,12 @@ impl Times {
         self.0.push(nanoseconds / inputs.len() as f64);
     }
 
+    /// Round by round.
+    pub fn less(&self, other: &Times) -> Times {
+        let both = self.0.iter().zip(&other.0);
+        Times(both.map(|(it, other)| it - other).collect())
+    }
+
     pub fn median(&self) -> f64 {
         let mut sorted = self.0.clone();
         sorted.sort_by(f64::total_cmp);

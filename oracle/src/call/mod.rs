@@ -3,6 +3,7 @@
 pub mod hours;
 pub mod ranges;
 pub mod sheets;
+pub mod slices;
 
 use crate::library::*;
 use crate::original::{MARKETS, WEEKDAYS};

@@ -41,7 +41,11 @@ pub fn run() -> bool {
         hours::run(),
         sheets::run(),
     ];
-    let added = added::run() & added::ranges::run() & added::hours::run() & added::sheets::run();
+    let added = added::run()
+        & added::ranges::run()
+        & added::slices::run()
+        & added::hours::run()
+        & added::sheets::run();
     both.into_iter().all(|right| right) && added
 }
 

@@ -3,6 +3,7 @@
 pub mod hours;
 pub mod ranges;
 pub mod sheets;
+pub mod slices;
 
 use crate::library::{BoolResult, Date, OptionalDate, TradingDayResult};
 use crate::{ANSWERED_YEARS, YEARS};

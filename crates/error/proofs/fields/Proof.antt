@@ -35,17 +35,21 @@ returns-7 c = c .only-number6 .ensures ∙ ap errorFields (sym (c .before .enum-
 
 returns-8 : tie.Need-returns-8
 unfolding errorFields
-returns-8 c = ap errorFields (sym (c .before .e2 .given .1))
+returns-8 c = c .only-number7 .ensures ∙ ap errorFields (sym (c .before .enum-told7 .given .1))
 
 returns-9 : tie.Need-returns-9
 unfolding errorFields
-returns-9 c = c .only-number7 .ensures ∙ ap errorFields (sym (c .before .enum-told7 .given .1))
+returns-9 c = ap errorFields (sym (c .before .e2 .given .1))
 
 returns-10 : tie.Need-returns-10
 unfolding errorFields
 returns-10 c = c .only-number8 .ensures ∙ ap errorFields (sym (c .before .enum-told8 .given .1))
 
+returns-11 : tie.Need-returns-11
+unfolding errorFields
+returns-11 c = c .only-number9 .ensures ∙ ap errorFields (sym (c .before .enum-told9 .given .1))
+
 pub fields-spec : {M : Type 1} → statement M
 fields-spec =
     tie.close
-    (tie.spec (search needs) (search needs) (search needs) (search needs) (search needs) (search needs) (search needs) (search needs) (search needs) (search needs) (search needs) (search needs) (search needs) (search needs) (search needs) (search needs) (search needs) (search needs) returns returns-2 returns-3 returns-4 returns-5 returns-6 returns-7 returns-8 returns-9 returns-10)
+    (tie.spec (search needs) (search needs) (search needs) (search needs) (search needs) (search needs) (search needs) (search needs) (search needs) (search needs) (search needs) (search needs) (search needs) (search needs) (search needs) (search needs) (search needs) (search needs) (search needs) (search needs) returns returns-2 returns-3 returns-4 returns-5 returns-6 returns-7 returns-8 returns-9 returns-10 returns-11)
