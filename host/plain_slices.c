@@ -18,7 +18,7 @@ static uint32_t shares_above(uint32_t each, const uint32_t *slices, uint32_t day
     return above;
 }
 
-/* Every day has at least what the last one has. */
+/* The last day has the shares per day; what the days have above them is the remainder. */
 tc_slice_result plain_slice_order(uint32_t market, uint32_t quantity, uint32_t start_year, uint32_t start_month, uint32_t start_day,
                                   uint32_t end_year, uint32_t end_month, uint32_t end_day, uint32_t *out, size_t out_length) {
     tc_count_result days = plain_count_trading_days(market, start_year, start_month, start_day, end_year, end_month, end_day);

@@ -55,8 +55,8 @@ static tally calls[CALLS] = {
     [UP_TO_2782] = {.name = "orders of up to 2782 slices", .meant = 5 + 1},
 };
 
-/* Each comparison with the plain calendar is one of these cases: an error, by its number, or slices, of which those with a
- * remainder are 0. */
+/* Each comparison with the plain calendar is one of these cases: an error, by its number, or slices: 0 stands for those
+ * with a remainder. */
 enum { WITHOUT_REMAINDER = 12, OF_NO_SHARES };
 static struct {
     const char *name;
@@ -99,9 +99,10 @@ static void slice_laws(numbers in, const uint32_t *slices, size_t length, tc_sli
         above += i > 0 && slices[i] > slices[i - 1];
         below += slices[0] - slices[i] > 1;
     }
-    numbers answered = {8, {(uint32_t)sum, (uint32_t)(sum >> 32), (uint32_t)product, (uint32_t)(product >> 32),
-                            answer.remainder < answer.count, above, below, answer.count}};
-    numbers expected = {8, {n[7], 0, n[7], 0, 1, 0, 0, tc_count_trading_days(n[0], n[1], n[2], n[3], n[4], n[5], n[6]).count}};
+    tc_count_result days = tc_count_trading_days(n[0], n[1], n[2], n[3], n[4], n[5], n[6]);
+    numbers answered = {9, {(uint32_t)sum, (uint32_t)(sum >> 32), (uint32_t)product, (uint32_t)(product >> 32),
+                            answer.remainder < answer.count, above, below, answer.count, TC_OK}};
+    numbers expected = {9, {n[7], 0, n[7], 0, 1, 0, 0, days.count, days.error}};
     compare(&calls[SLICE_LAWS], in, answered, expected);
 }
 
@@ -192,7 +193,7 @@ static void drawn_orders(void) {
     for (int i = 0; i < DRAWN_LIMITS; i++) slice(drawn_limits(), drawn(), drawn() % (ROOM + 1));
 }
 
-/* The first quarter, which has up to 65 trading days, on every length up to 70. */
+/* The first quarter, which has at most 63 trading days, on every length up to 70. */
 static void small_buffers(void) {
     static const tc_date start = {2025, 1, 1}, end = {2025, 3, 31};
     for (uint32_t i = 0; i < 5 * 71; i++) slice(range_of(i % 5, start, end), drawn(), i / 5);

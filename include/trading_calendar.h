@@ -160,8 +160,8 @@ tc_count_result tc_count_trading_days(uint32_t market, uint32_t start_year, uint
  * from the start of out, one entry for each day: the shares per day, and on the first days one more until the remainder is spent, so
  * that they add up to the quantity, which may be 0 [slices] [slice-laws]. out_length counts entries, of which TC_SLICE_BUFFER_LENGTH
  * are enough. out is not null, also if out_length is 0 [host-calls]. Entries past the slices stay as they were, and with an error
- * all do [error-writes-nothing]. Errors: 8 market, 5 date, 1 year as with the count, 11 date range, also if the start is after the
- * end, 9 buffer. */
+ * all do [error-writes-nothing]. Errors: 8 market, 5 date, 1 year as with the count, 11 date range (also if the start is after
+ * the end), 9 buffer. */
 tc_slice_result tc_slice_order(uint32_t market, uint32_t quantity, uint32_t start_year, uint32_t start_month, uint32_t start_day,
                                uint32_t end_year, uint32_t end_month, uint32_t end_day, uint32_t *out, size_t out_length);
 

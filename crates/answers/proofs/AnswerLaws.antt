@@ -2,8 +2,10 @@
 -- Assumes nothing.
 use Prim.Native.Nat.{ℕ}
 use mathlib.Core.Path.{_≡_, refl, ap}
-use Rattle.gregorian.specs.Calendar.{noDate}
+use mathlib.Core.List.{List}
 use native.Mathlib.Omega.{arith}
+use borrow.Author.Tests.{eq-eqb, ne-eqb}
+use Rattle.gregorian.specs.Calendar.{noDate}
 use Rattle.error.specs.declared.CountResult.{CountResult}
 use Rattle.error.specs.declared.CalendarError.{CalendarError}
 use Rattle.error.specs.declared.CalendarError.the-variants.{NoTradingDayInRange, BufferTooSmall}
@@ -11,7 +13,9 @@ use Rattle.error.specs.Errors.{errorFields}
 use Rattle.error.proofs.ErrorLaws.{error-number}
 use Rattle.answers.specs.declared.counts.CountAnswer.{CountAnswer}
 use Rattle.orders.specs.declared.SliceResult.{SliceResult}
+use Rattle.orders.specs.Slices.{sliceResult, sliceBuffer}
 use Rattle.answers.specs.Answers.{countAnswer, sliceAnswer}
+use Rattle.answers.specs.SliceCall.{sliceOrderAnswer, sliceOrderBuffer}
 use Rattle.answers.specs.Expected.{counted, tooSmall, slicedOver, notSliced}
 
 pub counted-is : (n : ℕ) → countAnswer (CountResult.Ok n) ≡ counted n
@@ -27,6 +31,11 @@ unfolding countAnswer
 was-counted (CountResult.Ok k) n e = ap CountResult.Ok (ap (λ (a : CountAnswer). a .count) e)
 was-counted (CountResult.Err d) n e = absurd (omega (arith, ap (λ (a : CountAnswer). a .error) e, error-number d))
 
+pub all-counted : (r : CountResult) → countAnswer r .error ≡ 0 → countAnswer r ≡ counted (countAnswer r .count)
+unfolding countAnswer
+all-counted (CountResult.Ok n) z = refl
+all-counted (CountResult.Err d) z = absurd (omega (arith, z, error-number d))
+
 -- ---- an order
 
 pub sliced-is : (count perDay remainder : ℕ) → sliceAnswer (SliceResult.Ok count perDay remainder) ≡ slicedOver count perDay remainder
@@ -41,12 +50,17 @@ pub too-few-entries-is : (n : ℕ) → sliceAnswer (SliceResult.Err (BufferTooSm
 unfolding sliceAnswer errorFields
 too-few-entries-is n = refl
 
--- the same error of the count and of the order
-pub same-error : (e : CalendarError) → (let a = countAnswer (CountResult.Err e) in sliceAnswer (SliceResult.Err e) ≡ notSliced (a .error) (a .count) (a .date))
-unfolding sliceAnswer countAnswer
-same-error e = refl
-
--- an error is one
+-- the number of an error is never 0
 pub is-error : (e : CalendarError) → sliceAnswer (SliceResult.Err e) .error ≡ 0 → ⊥
 unfolding sliceAnswer
 is-error e z = omega (arith, z, error-number e)
+
+-- The call, by what the count call returned: an error, or the number of days.
+module _ (quantity : ℕ) (counted : CountAnswer) (buffer : List ℕ) where
+  pub not-counted : (counted .error ≡ 0 → ⊥) → (sliceOrderAnswer quantity counted buffer ≡ notSliced (counted .error) (counted .count) (counted .date)) × (sliceOrderBuffer quantity counted buffer ≡ buffer)
+  unfolding sliceOrderAnswer sliceOrderBuffer
+  not-counted n = let e = ne-eqb (counted .error) 0 n in (simp e, simp e)
+
+  pub days-counted : counted .error ≡ 0 → (sliceOrderAnswer quantity counted buffer ≡ sliceAnswer (sliceResult quantity (counted .count) buffer)) × (sliceOrderBuffer quantity counted buffer ≡ sliceBuffer quantity (counted .count) buffer)
+  unfolding sliceOrderAnswer sliceOrderBuffer
+  days-counted z = let e = eq-eqb (counted .error) 0 z in (simp e, simp e)

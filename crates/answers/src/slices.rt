@@ -1,6 +1,8 @@
 // The answer of an order sliced over its days.
 ghost use mathlib.Core.Path.{_≡_};
 ghost use Rattle.answers.specs.Answers.{sliceAnswer};
+ghost use Rattle.answers.specs.SliceCall.{sliceOrderAnswer, sliceOrderBuffer};
+use crate::counts::CountAnswer;
 use gregorian::Date;
 use gregorian::NO_DATE;
 use orders::SliceResult;
@@ -16,7 +18,7 @@ pub struct SliceAnswer {
     pub date: Date,
 }
 
-pub fn slice_answer(result: SliceResult) -> SliceAnswer
+fn slice_answer(result: SliceResult) -> SliceAnswer
     ensures { λ r. ⌜ r ≡ sliceAnswer result ⌝ }
 {
     match result {
@@ -43,4 +45,22 @@ pub fn slice_answer(result: SliceResult) -> SliceAnswer
             }
         }
     }
+}
+
+// [slice-order], by what the count call returned: its error, with what comes with it, or the order over the days counted.
+pub fn slice_order_answer(quantity: u32, counted: CountAnswer, out: &mut [u32]) -> SliceAnswer
+    ensures { λ r. ⌜ (r ≡ sliceOrderAnswer quantity counted (now (out .entry)))
+        × (now (out .exit) ≡ sliceOrderBuffer quantity counted (now (out .entry))) ⌝ }
+{
+    if 0 < counted.error {
+        let date = counted.date;
+        return SliceAnswer {
+            error: counted.error,
+            count: counted.count,
+            per_day: 0,
+            remainder: 0,
+            date,
+        };
+    }
+    slice_answer(orders::slice_order(quantity, counted.count, out))
 }

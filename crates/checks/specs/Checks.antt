@@ -86,11 +86,6 @@ tryRange (RangeResult.Err e) error rest = error e
 
 -- ---- a buffer for entries, be they bytes or numbers
 
--- `?`, as for a day
-abbrev pub tryCount : {A : Type 0} → CountResult → (CalendarError → A) → (ℕ → A) → A
-tryCount (CountResult.Ok n) error rest = rest n
-tryCount (CountResult.Err e) error rest = error e
-
 -- how many entries are written: those needed, or error 9 with their number where there is less room
 unfoldable pub checkedRoom : ℕ → ℕ → CountResult
 checkedRoom needed room = cond (ltb room needed) (CountResult.Err (BufferTooSmall needed)) (CountResult.Ok needed)

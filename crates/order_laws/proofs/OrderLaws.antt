@@ -16,19 +16,20 @@ use Rattle.markets.specs.Markets.{isMarket, isTradingDay}
 use Rattle.markets.specs.Years.{minYear, maxYear}
 use Rattle.ranges.specs.Ranges.{sumOf}
 use Rattle.ranges.proofs.Counts.{count-none}
-use Rattle.checks.specs.Checks.{checkedRoom}
+use Rattle.checks.specs.Checks.{checkedRoom, finalBuffer}
 use Rattle.checks.proofs.CheckLaws.{room-enough, room-short}
 use Rattle.range_calls.proofs.CountLaws.{count-of-dates}
 use Rattle.error.specs.declared.CountResult.{CountResult}
-use Rattle.orders.specs.Slices.{slice, slicesOf, sliceDays}
-use Rattle.orders.proofs.SliceLaws.{none-to-slice, some-day, day-error, days-checked, tabulate-length, tabulate-entry, one-more, no-more, slices-are}
-use Rattle.orders.proofs.SliceLaws.{whole-order, remainder-less, follow, written, slice-by-days}
+use Rattle.orders.specs.Slices.{slice, slicesOf, slices, sliceDays, slicedBy, sliceResult, sliceBuffer}
+use Rattle.orders.proofs.SliceLaws.{no-day-to-slice, some-day, days-checked, tabulate-length, tabulate-entry, one-more, no-more, slices-are}
+use Rattle.orders.proofs.SliceLaws.{whole-order, remainder-less, slice-by-days}
 use Rattle.answers.specs.declared.counts.CountAnswer.{CountAnswer}
 use Rattle.answers.specs.declared.slices.SliceAnswer.{SliceAnswer}
 use Rattle.answers.specs.Answers.{countAnswer, sliceAnswer}
+use Rattle.answers.specs.SliceCall.{sliceOrderAnswer}
 use Rattle.answers.specs.Expected.{counted, notSliced}
-use Rattle.answers.proofs.AnswerLaws.{counted-is, was-counted, sliced-is, no-day-is, too-few-entries-is, same-error, is-error}
-use Rattle.order_laws.specs.OrderLaws.{Order, countOf, countCall, sliceCall, bufferAfter, Sliced, IsSliced, AllOrderLaws}
+use Rattle.answers.proofs.AnswerLaws.{counted-is, all-counted, sliced-is, no-day-is, too-few-entries-is, is-error, not-counted, days-counted}
+use Rattle.order_laws.specs.OrderLaws.{Order, countCall, sliceCall, bufferAfter, Sliced, IsSliced, AllOrderLaws}
 
 -- ---- the sum
 
@@ -71,7 +72,7 @@ module _ (perDay remainder count : ℕ) (less : remainder < count) (buffer : Lis
   other-days : (i : ℕ) → remainder ≤ i → i < count → getD after i 0 ≡ perDay
   other-days i h l = entry i l ∙ no-more perDay remainder i h
 
-  -- an entry is the shares per day, or one more, and that only where the remainder is not spent
+  -- an entry is the shares per day or one more
   within : (i : ℕ) → i < count → (perDay ≤ getD after i 0) × (getD after i 0 ≤ perDay + 1)
   within i l = elim (decLt i remainder) [
     | yes h ↦ (omega (arith, first-days i h), omega (arith, first-days i h))
@@ -116,58 +117,80 @@ module _ (perDay remainder count : ℕ) (less : remainder < count) (buffer : Lis
 
 -- ---- the call
 
--- what it returns, and the buffer after it, by what its checks came to
 module _ (o : Order) (buffer : List ℕ) where
+  abbrev count : ℕ
+  count = countCall o .count
+
   abbrev days : CountResult
-  days = sliceDays (countOf o) (length buffer)
+  days = sliceDays count (length buffer)
 
-  returned : (d : CountResult) → days ≡ d → sliceCall o buffer ≡ sliceAnswer (follow (o .quantity) (countOf o) buffer d)
-  returned d e = ap sliceAnswer (sym (slice-by-days (o .quantity) (countOf o) buffer d _ _ (sym e) refl refl .0))
+  -- What it returns, and the buffer after it, where the count call gives no error, by what its checks came to.
+  module _ (z : countCall o .error ≡ 0) (d : CountResult) (e : days ≡ d) where
+    by-days : (slicedBy (o .quantity) d ≡ sliceResult (o .quantity) count buffer) × (finalBuffer d (slices (o .quantity) count) buffer ≡ sliceBuffer (o .quantity) count buffer)
+    by-days = slice-by-days (o .quantity) count buffer d _ _ (sym e) refl refl
 
-  left : (d : CountResult) → days ≡ d → bufferAfter o buffer ≡ written (o .quantity) (countOf o) buffer d
-  left d e = sym (slice-by-days (o .quantity) (countOf o) buffer d _ _ (sym e) refl refl .1)
+    returned : sliceCall o buffer ≡ sliceAnswer (slicedBy (o .quantity) d)
+    returned = days-counted (o .quantity) (countCall o) buffer z .0 ∙ ap sliceAnswer (sym (by-days .0))
+
+    left : bufferAfter o buffer ≡ finalBuffer d (slices (o .quantity) count) buffer
+    left = days-counted (o .quantity) (countCall o) buffer z .1 ∙ sym (by-days .1)
+
+  count-error : (a : CountAnswer) → countCall o ≡ a → (a .error ≡ 0 → ⊥) → sliceCall o buffer ≡ notSliced (a .error) (a .count) (a .date)
+  count-error a p n = ap (λ (b : CountAnswer). sliceOrderAnswer (o .quantity) b buffer) p ∙ not-counted (o .quantity) a buffer n .0
 
   sliced : sliceCall o buffer .error ≡ 0 → IsSliced o buffer
-  sliced z = by days refl
+  sliced z = elim (decLt 0 (countCall o .error)) [
+    | yes n ↦ let e = ap (λ (a : SliceAnswer). a .error) (count-error (countCall o) refl (λ y. omega (arith, n, y))) in absurd (omega (arith, n, e, z))
+    | no n ↦ by (omega arith) days refl
+  ]
     where
-      by : (d : CountResult) → days ≡ d → IsSliced o buffer
-      by (CountResult.Ok n) e =
-          let c = days-checked (countOf o) (length buffer) n e in
+      by : (y : countCall o .error ≡ 0) (d : CountResult) → days ≡ d → IsSliced o buffer
+      by y (CountResult.Ok n) e =
+          let c = days-checked count (length buffer) n e in
           let perDay = o .quantity / n in
           let remainder = o .quantity % n in
           let less = remainder-less (o .quantity) n (c .one) in
-          let all = of-order perDay remainder n less buffer (c .fit) o (ap countAnswer (c .counted-is) ∙ counted-is n) (whole-order (o .quantity) n (c .one)) in (
+          let all = of-order perDay remainder n less buffer (c .fit) o (all-counted _ y ∙ ap counted (sym (c .all))) (whole-order (o .quantity) n (c .one)) in
+          let after = left y (CountResult.Ok n) e ∙ ap (λ (k : ℕ). overwrite (slices (o .quantity) k) buffer) (sym (c .all)) in (
             n,
             perDay,
             remainder,
-            returned (CountResult.Ok n) e ∙ sliced-is n perDay remainder,
-            subst (Sliced o n perDay remainder buffer) (sym (left (CountResult.Ok n) e)) all,
+            returned y (CountResult.Ok n) e ∙ sliced-is n perDay remainder,
+            subst (Sliced o n perDay remainder buffer) (sym after) all,
           )
-      by (CountResult.Err d) e = absurd (is-error d (ap (λ (a : SliceAnswer). a .error) (sym (returned (CountResult.Err d) e)) ∙ z))
+      by y (CountResult.Err d) e = absurd (is-error d (ap (λ (a : SliceAnswer). a .error) (sym (returned y (CountResult.Err d) e)) ∙ z))
 
   unchanged : (sliceCall o buffer .error ≡ 0 → ⊥) → bufferAfter o buffer ≡ buffer
-  unchanged n = by days refl
+  unchanged n = elim (decLt 0 (countCall o .error)) [
+    | yes m ↦ not-counted (o .quantity) (countCall o) buffer (λ y. omega (arith, m, y)) .1
+    | no m ↦ by (omega arith) days refl
+  ]
     where
-      by : (d : CountResult) → days ≡ d → bufferAfter o buffer ≡ buffer
-      by (CountResult.Ok k) e = absurd (n (ap (λ (b : SliceAnswer). b .error) (returned (CountResult.Ok k) e ∙ sliced-is k (o .quantity / k) (o .quantity % k))))
-      by (CountResult.Err d) e = left (CountResult.Err d) e
+      by : (y : countCall o .error ≡ 0) (d : CountResult) → days ≡ d → bufferAfter o buffer ≡ buffer
+      by y (CountResult.Ok k) e = absurd (n (ap (λ (a : SliceAnswer). a .error) (returned y (CountResult.Ok k) e ∙ sliced-is k (o .quantity / k) (o .quantity % k))))
+      by y (CountResult.Err d) e = left y (CountResult.Err d) e
 
-  count-error : (a : CountAnswer) → countCall o ≡ a → (a .error ≡ 0 → ⊥) → sliceCall o buffer ≡ notSliced (a .error) (a .count) (a .date)
-  count-error a p n = by (countOf o) refl
-    where
-      by : (c : CountResult) → countOf o ≡ c → sliceCall o buffer ≡ notSliced (a .error) (a .count) (a .date)
-      by (CountResult.Ok k) e = absurd (n (ap (λ (b : CountAnswer). b .error) (sym p ∙ ap countAnswer e ∙ counted-is k)))
-      by (CountResult.Err d) e =
-          returned (CountResult.Err d) (ap (λ (c : CountResult). sliceDays c (length buffer)) e ∙ day-error d (length buffer))
-          ∙ same-error d
-          ∙ ap (λ (b : CountAnswer). notSliced (b .error) (b .count) (b .date)) (sym (ap countAnswer e) ∙ p)
+  -- where the count call counts n days
+  module _ (n : ℕ) (p : countCall o ≡ counted n) where
+    no-error : countCall o .error ≡ 0
+    no-error = ap (λ (a : CountAnswer). a .error) p
 
-  -- the days where the count call counts so many
-  counted-days : (n : ℕ) → countCall o ≡ counted n → days ≡ sliceDays (CountResult.Ok n) (length buffer)
-  counted-days n p = ap (λ (c : CountResult). sliceDays c (length buffer)) (was-counted (countOf o) n p)
+    same-days : days ≡ sliceDays n (length buffer)
+    same-days = ap (λ (a : CountAnswer). sliceDays (a .count) (length buffer)) p
+
+    asked-room : 1 ≤ n → days ≡ checkedRoom n (length buffer)
+    asked-room l = same-days ∙ some-day n (length buffer) (λ z. omega (arith, z))
+
+    too-small : length buffer < n → sliceCall o buffer ≡ notSliced 9 n noDate
+    too-small h = returned no-error _ (asked-room (omega arith) ∙ room-short n (length buffer) h) ∙ too-few-entries-is n
+
+    answered : 1 ≤ n → n ≤ length buffer → sliceCall o buffer .error ≡ 0
+    answered l h =
+        ap (λ (a : SliceAnswer). a .error)
+        (returned no-error _ (asked-room l ∙ room-enough n (length buffer) h) ∙ sliced-is n (o .quantity / n) (o .quantity % n))
 
   no-day : countCall o ≡ counted 0 → sliceCall o buffer ≡ notSliced 11 0 noDate
-  no-day p = returned _ (counted-days 0 p ∙ none-to-slice 0 (length buffer) refl) ∙ no-day-is
+  no-day p = returned (no-error 0 p) _ (same-days 0 p ∙ no-day-to-slice 0 (length buffer) refl) ∙ no-day-is
 
   reversed : isMarket (o .market) ≡ true → isDateOf (o .start) ≡ true → isDateOf (o .end) ≡ true → minYear ≤ o .start .year → o .end .year ≤ maxYear → number (o .end) < number (o .start)
       → sliceCall o buffer ≡ notSliced 11 0 noDate
@@ -176,18 +199,6 @@ module _ (o : Order) (buffer : List ℕ) where
       (ap countAnswer (count-of-dates (o .market) (o .start .year) (o .start .month) (o .start .day) (o .end .year) (o .end .month) (o .end .day) k s t l u)
       ∙ counted-is _
       ∙ ap counted (count-none (isTradingDay (o .market)) (number (o .start)) (number (o .end)) h))
-
-  module _ (count : ℕ) (p : countCall o ≡ counted count) where
-    asked-room : 1 ≤ count → days ≡ checkedRoom count (length buffer)
-    asked-room l = counted-days count p ∙ some-day count (length buffer) (λ z. omega (arith, z))
-
-    too-small : length buffer < count → sliceCall o buffer ≡ notSliced 9 count noDate
-    too-small h = returned _ (asked-room (omega arith) ∙ room-short count (length buffer) h) ∙ too-few-entries-is count
-
-    answered : 1 ≤ count → count ≤ length buffer → sliceCall o buffer .error ≡ 0
-    answered l h =
-        ap (λ (a : SliceAnswer). a .error)
-        (returned _ (asked-room l ∙ room-enough count (length buffer) h) ∙ sliced-is count (o .quantity / count) (o .quantity % count))
 
 -- [slice-laws]
 pub order-laws : AllOrderLaws

@@ -10,12 +10,11 @@ use Rattle.gregorian.specs.Calendar.{noDate, isDateOf, number}
 use Rattle.markets.specs.Markets.{isMarket}
 use Rattle.markets.specs.Years.{minYear, maxYear}
 use Rattle.ranges.specs.Ranges.{sumOf}
-use Rattle.error.specs.declared.CountResult.{CountResult}
 use Rattle.range_calls.specs.RangeCalls.{countTradingDaysResult}
-use Rattle.orders.specs.Slices.{sliceOrderResult, sliceOrderBuffer}
 use Rattle.answers.specs.declared.counts.CountAnswer.{CountAnswer}
 use Rattle.answers.specs.declared.slices.SliceAnswer.{SliceAnswer}
-use Rattle.answers.specs.Answers.{countAnswer, sliceAnswer}
+use Rattle.answers.specs.Answers.{countAnswer}
+use Rattle.answers.specs.SliceCall.{sliceOrderAnswer, sliceOrderBuffer}
 use Rattle.answers.specs.Expected.{counted, slicedOver, notSliced}
 
 -- ---- one order
@@ -27,19 +26,17 @@ pub record Order : Type 0 where
   pub start : Date
   pub end : Date
 
-abbrev pub countOf : Order → CountResult
-countOf o = countTradingDaysResult (o .market) (o .start .year) (o .start .month) (o .start .day) (o .end .year) (o .end .month) (o .end .day)
-
--- what the count call returns on the order's market and dates
+-- what the count call returns on its market and dates
 abbrev pub countCall : Order → CountAnswer
-countCall o = countAnswer (countOf o)
+countCall o =
+    countAnswer (countTradingDaysResult (o .market) (o .start .year) (o .start .month) (o .start .day) (o .end .year) (o .end .month) (o .end .day))
 
 -- what the call returns that slices the order, and the buffer after it
 abbrev pub sliceCall : Order → List ℕ → SliceAnswer
-sliceCall o buffer = sliceAnswer (sliceOrderResult (o .quantity) (countOf o) buffer)
+sliceCall o buffer = sliceOrderAnswer (o .quantity) (countCall o) buffer
 
 abbrev pub bufferAfter : Order → List ℕ → List ℕ
-bufferAfter o buffer = sliceOrderBuffer (o .quantity) (countOf o) buffer
+bufferAfter o buffer = sliceOrderBuffer (o .quantity) (countCall o) buffer
 
 -- ---- the claim
 
@@ -48,7 +45,7 @@ pub record Sliced (o : Order) (count perDay remainder : ℕ) (buffer after : Lis
   -- the days are those that the count call counts, one at least
   pub count-is : countCall o ≡ counted count
   pub one-day : 1 ≤ count
-  -- the shares per day, on every day, and the remainder are the order; the remainder would not be a share for each day
+  -- shares per day times days plus remainder is the order; the remainder is less than a share for each day
   pub whole-order : perDay * count + remainder ≡ o .quantity
   pub remainder-less : remainder < count
   -- an entry for each day: they add up to the order
@@ -64,7 +61,7 @@ pub record Sliced (o : Order) (count perDay remainder : ℕ) (buffer after : Lis
   pub rest-stays : drop count after ≡ drop count buffer
   pub length-stays : length after ≡ length buffer
 
--- some numbers that the call returned, without an error
+-- The call returned some numbers, without an error; they and the buffer after it are as above.
 abbrev pub IsSliced : Order → List ℕ → Type 0
 IsSliced o buffer =
     (count perDay remainder : ℕ) × (sliceCall o buffer ≡ slicedOver count perDay remainder) × Sliced o count perDay remainder buffer (bufferAfter o buffer)
@@ -82,6 +79,6 @@ pub record AllOrderLaws : Type 0 where
   pub no-day : (o : Order) (buffer : List ℕ) → countCall o ≡ counted 0 → sliceCall o buffer ≡ notSliced 11 0 noDate
   pub reversed : (o : Order) (buffer : List ℕ) → isMarket (o .market) ≡ true → isDateOf (o .start) ≡ true → isDateOf (o .end) ≡ true → minYear ≤ o .start .year
       → o .end .year ≤ maxYear → number (o .end) < number (o .start) → sliceCall o buffer ≡ notSliced 11 0 noDate
-  -- error 9 with the days where there are more than entries, and else none
+  -- error 9, with the number of days, where there are more days than entries; else no error
   pub too-small : (o : Order) (buffer : List ℕ) (count : ℕ) → countCall o ≡ counted count → length buffer < count → sliceCall o buffer ≡ notSliced 9 count noDate
   pub answered : (o : Order) (buffer : List ℕ) (count : ℕ) → countCall o ≡ counted count → 1 ≤ count → count ≤ length buffer → sliceCall o buffer .error ≡ 0

@@ -10,44 +10,36 @@ use native.Mathlib.Numerals.{add-one}
 use native.Mathlib.Omega.{arith}
 use native.Mathlib.Decide.{decLt}
 use borrow.Author.Tests.{eq-eqb, ne-eqb, lt-ltb, le-ltb}
-use Rattle.buffers.specs.Buffers.{overwrite}
 use Rattle.error.specs.declared.CountResult.{CountResult}
-use Rattle.error.specs.declared.CalendarError.{CalendarError}
 use Rattle.error.specs.declared.CalendarError.the-variants.{NoTradingDayInRange}
-use Rattle.checks.specs.Checks.{tryCount, checkedRoom}
+use Rattle.checks.specs.Checks.{checkedRoom, finalBuffer}
 use Rattle.checks.proofs.CheckLaws.{room-checked}
 use Rattle.orders.specs.declared.SliceResult.{SliceResult}
-use Rattle.orders.specs.Slices.{tabulate, slice, slicesOf, slices, sliceDays, sliceOrderResult, sliceOrderBuffer}
+use Rattle.orders.specs.Slices.{tabulate, slice, slicesOf, slices, sliceDays, slicedBy, sliceResult, sliceBuffer}
 
 -- ---- the days
 
 module _ (count room : ℕ) where
   -- error 11
-  pub none-to-slice : count ≡ 0 → sliceDays (CountResult.Ok count) room ≡ CountResult.Err NoTradingDayInRange
+  pub no-day-to-slice : count ≡ 0 → sliceDays count room ≡ CountResult.Err NoTradingDayInRange
   unfolding sliceDays
-  none-to-slice e = simp (eq-eqb count 0 e)
+  no-day-to-slice e = simp (eq-eqb count 0 e)
 
-  pub some-day : (count ≡ 0 → ⊥) → sliceDays (CountResult.Ok count) room ≡ checkedRoom count room
+  pub some-day : (count ≡ 0 → ⊥) → sliceDays count room ≡ checkedRoom count room
   unfolding sliceDays
   some-day n = simp (ne-eqb count 0 n)
 
--- the count's error
-pub day-error : (e : CalendarError) (room : ℕ) → sliceDays (CountResult.Err e) room ≡ CountResult.Err e
-unfolding sliceDays
-day-error e room = refl
-
--- days to slice over: they were counted, there is one, and there is room for all
-pub record SlicedDays (counted : CountResult) (room n : ℕ) : Type 0 where
-  pub counted-is : counted ≡ CountResult.Ok n
+-- days to slice over: those counted, one at least, and there is room for all
+pub record SlicedDays (count room n : ℕ) : Type 0 where
+  pub all : n ≡ count
   pub one : 1 ≤ n
   pub fit : n ≤ room
 
-pub days-checked : (counted : CountResult) (room n : ℕ) → sliceDays counted room ≡ CountResult.Ok n → SlicedDays counted room n
-days-checked (CountResult.Ok zero) room n q = absurd (let e = sym (none-to-slice zero room refl) ∙ q in let z : _≡_ {A = ℕ} 0 1 = cc in omega arith)
-days-checked (CountResult.Ok (suc k)) room n q =
+pub days-checked : (count room n : ℕ) → sliceDays count room ≡ CountResult.Ok n → SlicedDays count room n
+days-checked zero room n q = absurd (let e = sym (no-day-to-slice zero room refl) ∙ q in let z : _≡_ {A = ℕ} 0 1 = cc in omega arith)
+days-checked (suc k) room n q =
     let r = room-checked (suc k) room n (sym (some-day (suc k) room (λ z. omega (arith, z))) ∙ q) in
-    record { counted-is = ap CountResult.Ok (sym (r .0)); one = omega (arith, r); fit = omega (arith, r) }
-days-checked (CountResult.Err e) room n q = absurd (let p = sym (day-error e room) ∙ q in let z : _≡_ {A = ℕ} 0 1 = cc in omega arith)
+    record { all = r .0; one = omega (arith, r); fit = omega (arith, r) }
 
 -- ---- the slices
 
@@ -99,7 +91,7 @@ module _ (perDay remainder : ℕ) where
       let others = tabulate-same (λ i. slice perDay remainder (remainder + i)) perDay k (λ i l. no-more (remainder + i) (omega arith)) in
       sym (ap (slicesOf perDay remainder) (sym all) ∙ tabulate-parts (slice perDay remainder) remainder k ∙ ap₂ (λ (l r : List ℕ). l ++ r) first others)
 
--- The shares per day and the remainder: together the order, and no more than it. The remainder is less than a share for each day.
+-- Shares per day times days plus remainder is the order, so their plain sum is at most the order; the remainder is below the days.
 module _ (quantity count : ℕ) (one : 1 ≤ count) where
   pub whole-order : (quantity / count) * count + quantity % count ≡ quantity
   whole-order = div-add-mod' quantity count
@@ -110,18 +102,11 @@ module _ (quantity count : ℕ) (one : 1 ≤ count) where
   pub no-more-than : quantity / count + quantity % count ≤ quantity
   no-more-than = omega (arith, whole-order, le-mul-of-pos-right {m = count} (quantity / count) (omega arith))
 
--- ---- the call
+-- ---- over the days counted
 
-module _ (quantity : ℕ) (counted : CountResult) (buffer : List ℕ) where
-  -- what follows the checks
-  abbrev pub follow : CountResult → SliceResult
-  follow days = tryCount days SliceResult.Err (λ count. SliceResult.Ok count (quantity / count) (quantity % count))
-
-  abbrev pub written : CountResult → List ℕ
-  written days = tryCount days (λ e. buffer) (λ count. overwrite (slices quantity count) buffer)
-
+module _ (quantity count : ℕ) (buffer : List ℕ) where
   -- the answer and the final buffer, by what the checks came to
-  pub slice-by-days : (days : CountResult) (r : SliceResult) (final : List ℕ) → days ≡ sliceDays counted (length buffer) → r ≡ follow days → final ≡ written days
-      → (r ≡ sliceOrderResult quantity counted buffer) × (final ≡ sliceOrderBuffer quantity counted buffer)
-  unfolding sliceOrderResult sliceOrderBuffer
-  slice-by-days days r final q p f = (p ∙ ap follow q, f ∙ ap written q)
+  pub slice-by-days : (days : CountResult) (r : SliceResult) (final : List ℕ) → days ≡ sliceDays count (length buffer) → r ≡ slicedBy quantity days → final ≡ finalBuffer days (slices quantity count) buffer
+      → (r ≡ sliceResult quantity count buffer) × (final ≡ sliceBuffer quantity count buffer)
+  unfolding sliceResult
+  slice-by-days days r final q p f = (p ∙ ap (slicedBy quantity) q, f ∙ ap (λ (d : CountResult). finalBuffer d (slices quantity count) buffer) q)

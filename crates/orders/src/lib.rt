@@ -1,9 +1,9 @@
-// An order sliced over the trading days of a date range [slice-order].
+// An order sliced over the trading days of a date range, by their number [slice-order].
 ghost use mathlib.Core.Path.{_≡_};
 ghost use Prim.Native.Nat.{_+_, _≤_, _<_, _^_};
 ghost use lib.ListN.{length};
 ghost use Rattle.buffers.specs.Buffers.{overwrite};
-ghost use Rattle.orders.specs.Slices.{slicesOf, sliceDays, sliceOrderResult, sliceOrderBuffer};
+ghost use Rattle.orders.specs.Slices.{slicesOf, sliceDays, sliceResult, sliceBuffer};
 use checks::checked_room;
 use error::CalendarError;
 use error::CountResult;
@@ -18,19 +18,14 @@ pub enum SliceResult {
     Err(CalendarError),
 }
 
-// Errors 11 and 9, past those of the count; or how many days there are.
-fn slice_days(counted: CountResult, room: usize) -> CountResult
-    ensures { λ r. ⌜ r ≡ sliceDays counted room ⌝ }
+// Errors 11 and 9, or the number of days.
+fn slice_days(count: u32, room: usize) -> CountResult
+    ensures { λ r. ⌜ r ≡ sliceDays count room ⌝ }
 {
-    match counted {
-        CountResult::Ok(count) => {
-            if count == 0 {
-                return CountResult::Err(CalendarError::NoTradingDayInRange);
-            }
-            checked_room(count as usize, room)
-        }
-        CountResult::Err(e) => CountResult::Err(e),
+    if count == 0 {
+        return CountResult::Err(CalendarError::NoTradingDayInRange);
     }
+    checked_room(count as usize, room)
 }
 
 // [slices]: each entry is written once, and without a division.
@@ -43,18 +38,18 @@ fn write_slices(per_day: u32, remainder: usize, count: usize, out: &mut [u32])
     buffers::fill(per_day, &mut out[remainder..count]);
 }
 
-// [slice-order], by what the count answers: its error, 11 or 9; or the slices are at the start of the buffer, the rest of which stays.
-pub fn slice_order(quantity: u32, counted: CountResult, out: &mut [u32]) -> SliceResult
-    ensures { λ r. ⌜ (r ≡ sliceOrderResult quantity counted (now (out .entry)))
-        × (now (out .exit) ≡ sliceOrderBuffer quantity counted (now (out .entry))) ⌝ }
+// [slice-order], over the days counted: error 11 or 9; or the slices are at the start of the buffer, the rest of which stays.
+pub fn slice_order(quantity: u32, count: u32, out: &mut [u32]) -> SliceResult
+    ensures { λ r. ⌜ (r ≡ sliceResult quantity count (now (out .entry)))
+        × (now (out .exit) ≡ sliceBuffer quantity count (now (out .entry))) ⌝ }
 {
-    match slice_days(counted, out.len()) {
-        CountResult::Ok(count) => {
-            let per_day = quantity / count;
-            let remainder = quantity % count;
-            write_slices(per_day, remainder as usize, count as usize, out);
+    match slice_days(count, out.len()) {
+        CountResult::Ok(days) => {
+            let per_day = quantity / days;
+            let remainder = quantity % days;
+            write_slices(per_day, remainder as usize, days as usize, out);
             SliceResult::Ok {
-                count,
+                count: days,
                 per_day,
                 remainder,
             }

@@ -71,7 +71,7 @@ pub fn count_trading_days(
     };
     match checked_range(first, last) {
         RangeResult::Ok { start, end } => {
-            CountResult::Ok(trading_days::count(market, start, end))
+            CountResult::Ok(trading_days::count(market, start_year, start, end))
         }
         RangeResult::Err(e) => CountResult::Err(e),
     }

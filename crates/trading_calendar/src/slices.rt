@@ -1,12 +1,11 @@
 // The call that slices an order over its days.
 ghost use mathlib.Core.Path.{_≡_};
 ghost use Rattle.range_calls.specs.RangeCalls.{countTradingDaysResult};
-ghost use Rattle.orders.specs.Slices.{sliceOrderResult, sliceOrderBuffer};
-ghost use Rattle.answers.specs.Answers.{sliceAnswer};
+ghost use Rattle.answers.specs.Answers.{countAnswer};
+ghost use Rattle.answers.specs.SliceCall.{sliceOrderAnswer, sliceOrderBuffer};
+use crate::ranges::tc_count_trading_days;
 use answers::slices::SliceAnswer;
-use answers::slices::slice_answer;
-use orders::slice_order;
-use range_calls::counts::count_trading_days;
+use answers::slices::slice_order_answer;
 
 // [slice-order]: over how many days, the shares of each and the remainder, with the slices at the start of the buffer, one number for
 // each day; or the first of errors 8, 5, 1, 11 and 9 that applies, with which nothing is written [error-writes-nothing].
@@ -22,11 +21,12 @@ pub extern "C" fn tc_slice_order(
     end_day: u32,
     out: &mut [u32],
 ) -> SliceAnswer
-    ensures { λ r. ⌜ (let counted = countTradingDaysResult market «start_year» «start_month» «start_day» «end_year» «end_month» «end_day» in
-        (r ≡ sliceAnswer (sliceOrderResult quantity counted (now (out .entry))))
+    ensures { λ r. ⌜ (let counted = countAnswer (countTradingDaysResult market «start_year» «start_month» «start_day»
+        «end_year» «end_month» «end_day») in
+        (r ≡ sliceOrderAnswer quantity counted (now (out .entry)))
         × (now (out .exit) ≡ sliceOrderBuffer quantity counted (now (out .entry)))) ⌝ }
 {
-    let counted = count_trading_days(
+    let counted = tc_count_trading_days(
         market,
         start_year,
         start_month,
@@ -35,5 +35,5 @@ pub extern "C" fn tc_slice_order(
         end_month,
         end_day,
     );
-    slice_answer(slice_order(quantity, counted, out))
+    slice_order_answer(quantity, counted, out)
 }

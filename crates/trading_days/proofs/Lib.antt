@@ -1,1 +1,2 @@
 pub mod MonthDayLaws
+pub mod YearParts

@@ -29,7 +29,7 @@ pub struct TradingDay {
 pub struct Slices {
     /// How many trading days there are, 1 or more, with a slice for each
     pub count: usize,
-    /// The shares of each day, before the remainder is spent
+    /// The shares of each day, without the remainder
     pub per_day: u32,
     /// How many shares are left, fewer than there are days: so many of the first days carry one share more
     pub remainder: u32,
