@@ -1,4 +1,5 @@
--- The answers with a number, field by field; and what one without an error was made from.
+-- The answers with a number and of an order, field by field; what one without an error was made from; an order by what the count call
+-- returned.
 -- Assumes nothing.
 use Prim.Native.Nat.{ℕ}
 use mathlib.Core.Path.{_≡_, refl, ap}

@@ -1,5 +1,5 @@
 // The C structs of the answers, and how each result becomes one; the nth weekday and Easter, whose dates are not made from a day
-// number.
+// number; an order sliced by the struct that the count call returned.
 pub mod counts;
 pub mod neighbours;
 pub mod records;

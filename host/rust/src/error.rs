@@ -7,7 +7,7 @@ use std::fmt;
 #[derive(Debug, Clone, PartialEq, Eq)]
 pub enum CalendarError {
     /// Not every date asked for is in 2020 to 2030; with the date given, the start of a date range or the 1st of a month
-    /// `[year-check]` `[month-list]` `[count]`.
+    /// `[year-check]` `[month-list]` `[count]` `[slice-order]`.
     DateOutOfRange(NaiveDate),
     /// An early close that is not before the regular end `[with-early-close]`.
     InvalidTime(String),

@@ -1,4 +1,4 @@
-/* Plain loops that fill a list, for slices.rs. Compiled with -O2 and with -O3, which LEVEL tells. */
+/* Plain loops that fill a list, for filling.rs. Compiled with -O2 and with -O3, which LEVEL tells. */
 #include <stddef.h>
 #include <stdint.h>
 
