@@ -232,7 +232,8 @@ impl TradingCalendar {
         ffi::slice_order(market, quantity, start.into(), end.into(), out).answered()
     }
 
-    /// Added: the slices of `slice_order` as a list of just their length, with the same errors but `BufferTooSmall`.
+    /// Added: the slices of `slice_order` as a list of just their length, with the same errors but `BufferTooSmall`. The days are counted
+    /// once more, before, for the room; `slice_order` counts them once.
     ///
     /// ```
     /// use trading_calendar::{CalendarError, Market, NaiveDate, TradingCalendar};
