@@ -29,7 +29,7 @@ use Rattle.answers.specs.Answers.{countAnswer, sliceAnswer}
 use Rattle.answers.specs.SliceCall.{sliceOrderAnswer}
 use Rattle.answers.specs.Expected.{counted, notSliced}
 use Rattle.answers.proofs.AnswerLaws.{counted-is, all-counted, sliced-is, no-day-is, too-few-entries-is, is-error, not-counted, days-counted}
-use Rattle.order_laws.specs.OrderLaws.{Order, countCall, sliceCall, bufferAfter, Sliced, IsSliced, AllOrderLaws}
+use Rattle.order_laws.specs.OrderLaws.{Order, countOf, sliceCall, bufferAfter, Sliced, IsSliced, AllOrderLaws}
 
 -- ---- the sum
 
@@ -99,7 +99,7 @@ module _ (perDay remainder count : ℕ) (less : remainder < count) (buffer : Lis
   length-stays = overwrite-length entries buffer (omega (arith, as-many))
 
   -- these are the numbers and the entries of an order
-  of-order : (o : Order) → countCall o ≡ counted count → perDay * count + remainder ≡ o .quantity → Sliced o count perDay remainder buffer after
+  of-order : (o : Order) → countOf o ≡ counted count → perDay * count + remainder ≡ o .quantity → Sliced o count perDay remainder buffer after
   of-order o c w = record {
     count-is = c;
     one-day = omega arith;
@@ -119,32 +119,32 @@ module _ (perDay remainder count : ℕ) (less : remainder < count) (buffer : Lis
 
 module _ (o : Order) (buffer : List ℕ) where
   abbrev count : ℕ
-  count = countCall o .count
+  count = countOf o .count
 
   abbrev days : CountResult
   days = sliceDays count (length buffer)
 
   -- What it returns, and the buffer after it, where the count call gives no error, by what its checks came to.
-  module _ (z : countCall o .error ≡ 0) (d : CountResult) (e : days ≡ d) where
+  module _ (z : countOf o .error ≡ 0) (d : CountResult) (e : days ≡ d) where
     by-days : (slicedBy (o .quantity) d ≡ sliceResult (o .quantity) count buffer) × (finalBuffer d (slices (o .quantity) count) buffer ≡ sliceBuffer (o .quantity) count buffer)
     by-days = slice-by-days (o .quantity) count buffer d _ _ (sym e) refl refl
 
     returned : sliceCall o buffer ≡ sliceAnswer (slicedBy (o .quantity) d)
-    returned = days-counted (o .quantity) (countCall o) buffer z .0 ∙ ap sliceAnswer (sym (by-days .0))
+    returned = days-counted (o .quantity) (countOf o) buffer z .0 ∙ ap sliceAnswer (sym (by-days .0))
 
     left : bufferAfter o buffer ≡ finalBuffer d (slices (o .quantity) count) buffer
-    left = days-counted (o .quantity) (countCall o) buffer z .1 ∙ sym (by-days .1)
+    left = days-counted (o .quantity) (countOf o) buffer z .1 ∙ sym (by-days .1)
 
-  count-error : (a : CountAnswer) → countCall o ≡ a → (a .error ≡ 0 → ⊥) → sliceCall o buffer ≡ notSliced (a .error) (a .count) (a .date)
+  count-error : (a : CountAnswer) → countOf o ≡ a → (a .error ≡ 0 → ⊥) → sliceCall o buffer ≡ notSliced (a .error) (a .count) (a .date)
   count-error a p n = ap (λ (b : CountAnswer). sliceOrderAnswer (o .quantity) b buffer) p ∙ not-counted (o .quantity) a buffer n .0
 
   sliced : sliceCall o buffer .error ≡ 0 → IsSliced o buffer
-  sliced z = elim (decLt 0 (countCall o .error)) [
-    | yes n ↦ let e = ap (λ (a : SliceAnswer). a .error) (count-error (countCall o) refl (λ y. omega (arith, n, y))) in absurd (omega (arith, n, e, z))
+  sliced z = elim (decLt 0 (countOf o .error)) [
+    | yes n ↦ let e = ap (λ (a : SliceAnswer). a .error) (count-error (countOf o) refl (λ y. omega (arith, n, y))) in absurd (omega (arith, n, e, z))
     | no n ↦ by (omega arith) days refl
   ]
     where
-      by : (y : countCall o .error ≡ 0) (d : CountResult) → days ≡ d → IsSliced o buffer
+      by : (y : countOf o .error ≡ 0) (d : CountResult) → days ≡ d → IsSliced o buffer
       by y (CountResult.Ok n) e =
           let c = days-checked count (length buffer) n e in
           let perDay = o .quantity / n in
@@ -161,18 +161,18 @@ module _ (o : Order) (buffer : List ℕ) where
       by y (CountResult.Err d) e = absurd (is-error d (ap (λ (a : SliceAnswer). a .error) (sym (returned y (CountResult.Err d) e)) ∙ z))
 
   unchanged : (sliceCall o buffer .error ≡ 0 → ⊥) → bufferAfter o buffer ≡ buffer
-  unchanged n = elim (decLt 0 (countCall o .error)) [
-    | yes m ↦ not-counted (o .quantity) (countCall o) buffer (λ y. omega (arith, m, y)) .1
+  unchanged n = elim (decLt 0 (countOf o .error)) [
+    | yes m ↦ not-counted (o .quantity) (countOf o) buffer (λ y. omega (arith, m, y)) .1
     | no m ↦ by (omega arith) days refl
   ]
     where
-      by : (y : countCall o .error ≡ 0) (d : CountResult) → days ≡ d → bufferAfter o buffer ≡ buffer
+      by : (y : countOf o .error ≡ 0) (d : CountResult) → days ≡ d → bufferAfter o buffer ≡ buffer
       by y (CountResult.Ok k) e = absurd (n (ap (λ (a : SliceAnswer). a .error) (returned y (CountResult.Ok k) e ∙ sliced-is k (o .quantity / k) (o .quantity % k))))
       by y (CountResult.Err d) e = left y (CountResult.Err d) e
 
   -- where the count call counts n days
-  module _ (n : ℕ) (p : countCall o ≡ counted n) where
-    no-error : countCall o .error ≡ 0
+  module _ (n : ℕ) (p : countOf o ≡ counted n) where
+    no-error : countOf o .error ≡ 0
     no-error = ap (λ (a : CountAnswer). a .error) p
 
     same-days : days ≡ sliceDays n (length buffer)
@@ -189,7 +189,7 @@ module _ (o : Order) (buffer : List ℕ) where
         ap (λ (a : SliceAnswer). a .error)
         (returned no-error _ (asked-room l ∙ room-enough n (length buffer) h) ∙ sliced-is n (o .quantity / n) (o .quantity % n))
 
-  no-day : countCall o ≡ counted 0 → sliceCall o buffer ≡ notSliced 11 0 noDate
+  no-day : countOf o ≡ counted 0 → sliceCall o buffer ≡ notSliced 11 0 noDate
   no-day p = returned (no-error 0 p) _ (same-days 0 p ∙ no-day-to-slice 0 (length buffer) refl) ∙ no-day-is
 
   reversed : isMarket (o .market) ≡ true → isDateOf (o .start) ≡ true → isDateOf (o .end) ≡ true → minYear ≤ o .start .year → o .end .year ≤ maxYear → number (o .end) < number (o .start)

@@ -10,12 +10,11 @@ use Rattle.gregorian.specs.Calendar.{noDate, isDateOf, number}
 use Rattle.markets.specs.Markets.{isMarket}
 use Rattle.markets.specs.Years.{minYear, maxYear}
 use Rattle.ranges.specs.Ranges.{sumOf}
-use Rattle.range_calls.specs.RangeCalls.{countTradingDaysResult}
 use Rattle.answers.specs.declared.counts.CountAnswer.{CountAnswer}
 use Rattle.answers.specs.declared.slices.SliceAnswer.{SliceAnswer}
-use Rattle.answers.specs.Answers.{countAnswer}
 use Rattle.answers.specs.SliceCall.{sliceOrderAnswer, sliceOrderBuffer}
 use Rattle.answers.specs.Expected.{counted, slicedOver, notSliced}
+use Rattle.agreement.specs.CallsAgree.{countCall}
 
 -- ---- one order
 
@@ -27,23 +26,22 @@ pub record Order : Type 0 where
   pub end : Date
 
 -- what the count call returns on its market and dates
-abbrev pub countCall : Order → CountAnswer
-countCall o =
-    countAnswer (countTradingDaysResult (o .market) (o .start .year) (o .start .month) (o .start .day) (o .end .year) (o .end .month) (o .end .day))
+abbrev pub countOf : Order → CountAnswer
+countOf o = countCall (o .market) (o .start) (o .end)
 
 -- what the call returns that slices the order, and the buffer after it
 abbrev pub sliceCall : Order → List ℕ → SliceAnswer
-sliceCall o buffer = sliceOrderAnswer (o .quantity) (countCall o) buffer
+sliceCall o buffer = sliceOrderAnswer (o .quantity) (countOf o) buffer
 
 abbrev pub bufferAfter : Order → List ℕ → List ℕ
-bufferAfter o buffer = sliceOrderBuffer (o .quantity) (countCall o) buffer
+bufferAfter o buffer = sliceOrderBuffer (o .quantity) (countOf o) buffer
 
 -- ---- the claim
 
 -- The call returned these numbers, and `after` is the buffer after it.
 pub record Sliced (o : Order) (count perDay remainder : ℕ) (buffer after : List ℕ) : Type 0 where
   -- the days are those that the count call counts, one at least
-  pub count-is : countCall o ≡ counted count
+  pub count-is : countOf o ≡ counted count
   pub one-day : 1 ≤ count
   -- shares per day times days plus remainder is the order; the remainder is less than a share for each day
   pub whole-order : perDay * count + remainder ≡ o .quantity
@@ -73,12 +71,12 @@ pub record AllOrderLaws : Type 0 where
   -- With one, all entries keep their values.
   pub unchanged : (o : Order) (buffer : List ℕ) → (sliceCall o buffer .error ≡ 0 → ⊥) → bufferAfter o buffer ≡ buffer
   -- Which it is, by what the count call returns: its error, with what comes with it,
-  pub count-error : (o : Order) (buffer : List ℕ) (a : CountAnswer) → countCall o ≡ a → (a .error ≡ 0 → ⊥)
+  pub count-error : (o : Order) (buffer : List ℕ) (a : CountAnswer) → countOf o ≡ a → (a .error ≡ 0 → ⊥)
       → sliceCall o buffer ≡ notSliced (a .error) (a .count) (a .date)
   -- error 11 where it counts no day, as where the start is after the end,
-  pub no-day : (o : Order) (buffer : List ℕ) → countCall o ≡ counted 0 → sliceCall o buffer ≡ notSliced 11 0 noDate
+  pub no-day : (o : Order) (buffer : List ℕ) → countOf o ≡ counted 0 → sliceCall o buffer ≡ notSliced 11 0 noDate
   pub reversed : (o : Order) (buffer : List ℕ) → isMarket (o .market) ≡ true → isDateOf (o .start) ≡ true → isDateOf (o .end) ≡ true → minYear ≤ o .start .year
       → o .end .year ≤ maxYear → number (o .end) < number (o .start) → sliceCall o buffer ≡ notSliced 11 0 noDate
   -- error 9, with the number of days, where there are more days than entries; else no error
-  pub too-small : (o : Order) (buffer : List ℕ) (count : ℕ) → countCall o ≡ counted count → length buffer < count → sliceCall o buffer ≡ notSliced 9 count noDate
-  pub answered : (o : Order) (buffer : List ℕ) (count : ℕ) → countCall o ≡ counted count → 1 ≤ count → count ≤ length buffer → sliceCall o buffer .error ≡ 0
+  pub too-small : (o : Order) (buffer : List ℕ) (count : ℕ) → countOf o ≡ counted count → length buffer < count → sliceCall o buffer ≡ notSliced 9 count noDate
+  pub answered : (o : Order) (buffer : List ℕ) (count : ℕ) → countOf o ≡ counted count → 1 ≤ count → count ≤ length buffer → sliceCall o buffer .error ≡ 0
