@@ -79,7 +79,7 @@ day-of-year y m d h =
     omega (arith, total-mono (monthLength y) m 12 (h .m-high), total-next (monthLength y) m (h .m-low), year-of-months y)
 
 -- The day after exists, and its number is one more.
-abbrev NextDay : Date → Date → Type 0
+abbrev pub NextDay : Date → Date → Type 0
 NextDay t u = (number u ≡ number t + 1) × DateExists u
 
 in-month : (t : Date) → DateExists t → t .day < monthLength (t .year) (t .month) → NextDay t (date (t .year) (t .month) (t .day + 1))
@@ -87,7 +87,7 @@ unfolding dayNumber
 in-month t h l =
     (omega arith, record { y-low = h .y-low; m-low = h .m-low; m-high = h .m-high; d-low = omega arith; d-high = omega (arith, l) })
 
-to-month : (t : Date) → DateExists t → monthLength (t .year) (t .month) ≤ t .day → t .month < 12 → NextDay t (date (t .year) (t .month + 1) 1)
+pub to-month : (t : Date) → DateExists t → monthLength (t .year) (t .month) ≤ t .day → t .month < 12 → NextDay t (date (t .year) (t .month + 1) 1)
 unfolding dayNumber
 to-month t h l k =
     let b = total-next (monthLength (t .year)) (t .month) (h .m-low) in
@@ -96,7 +96,7 @@ to-month t h l k =
       record { y-low = h .y-low; m-low = omega arith; m-high = omega arith; d-low = lit≤ tt; d-high = omega (arith, month-low (t .year) (t .month + 1) (omega arith) (omega arith)) },
     )
 
-to-year : (t : Date) → DateExists t → monthLength (t .year) (t .month) ≤ t .day → 12 ≤ t .month → NextDay t (date (t .year + 1) 1 1)
+pub to-year : (t : Date) → DateExists t → monthLength (t .year) (t .month) ≤ t .day → 12 ≤ t .month → NextDay t (date (t .year + 1) 1 1)
 unfolding dayNumber
 to-year t h l k =
     let b = total-next (monthLength (t .year)) (t .month) (h .m-low) in

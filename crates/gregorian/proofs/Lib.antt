@@ -4,3 +4,4 @@ pub mod YearDays
 pub mod Laws
 pub mod Weekdays
 pub mod Formulas
+pub mod DaySteps

@@ -1,6 +1,8 @@
 -- Inner: no exported contract and no claim rests on these. Facts about dates and their parts. Assumes nothing.
 use Prim.Native.Nat.{ℕ, _-_, _≤_, _<_}
-use Rattle.gregorian.specs.Calendar.{monthLength, total, lastYear}
+use mathlib.Core.Path.{_≡_}
+use Rattle.gregorian.specs.Calendar.{monthLength, total, lastYear, dateOf}
+use Rattle.gregorian.specs.declared.days.CalendarDay.{CalendarDay}
 
 -- day d of month m of year y exists, in any year from 1 on
 pub record Exists (y m d : ℕ) : Type 0 where
@@ -21,3 +23,8 @@ pub record Within (f : ℕ → ℕ) (most n k : ℕ) : Type 0 where
   pub high : k ≤ most
   pub starts : total f (k - 1) < n
   pub ends : n ≤ total f k
+
+-- the number and the date that are carried together are of the same day
+pub record SameDay (day : CalendarDay) : Type 0 where
+  pub low : 1 ≤ day .number
+  pub same : day .date ≡ dateOf (day .number)

@@ -1,5 +1,7 @@
 // The Gregorian calendar: leap years, month lengths, dates, day numbers and weekdays, in closed
 // arithmetic. A date inside the library is its day number, a u32: 0001-01-01 is 1.
+pub mod days;
+
 ghost use mathlib.Core.Path.{_≡_};
 ghost use mathlib.Core.Bool.{true};
 ghost use Prim.Native.Nat.{_≤_};

@@ -1,4 +1,4 @@
--- The holidays of Japan by the shorter account: docs/SCOPE.md [tse-substitute].
+-- The holidays of Japan by their months: docs/SCOPE.md [month-first], [tse-substitute].
 -- Assumes nothing.
 use Prim.Native.Nat.{ℕ, zero, suc, _+_, _-_, _*_, _≤_, _<_}
 use mathlib.Core.Path.{_≡_, refl, ap, sym, _∙_, subst}
@@ -10,18 +10,22 @@ use lib.ListN.{getD}
 use native.Mathlib.Omega.{arith}
 use native.Mathlib.Nat.{eq-or-lt-of-le, le-of-suc-le-suc}
 use borrow.Author.Tests.{leb-true, ltb-true, eqb-true, ne-eqb}
-use Rattle.gregorian.specs.Calendar.{monday, friday, sunday, dayNumber, lastYear, isDate, weekdayOf, date}
+use Rattle.gregorian.specs.Calendar.{monday, friday, sunday, dayNumber, lastYear, lastDay, weekdayOf, date}
+use Rattle.gregorian.specs.declared.days.CalendarDay.{CalendarDay}
+use Rattle.gregorian.specs.Inner.{SameDay}
 use Rattle.gregorian.proofs.Tests.{and-left, and-right, and-false}
-use Rattle.gregorian.proofs.Laws.{days-on, is-date, date-by, month-low, number-before}
+use Rattle.gregorian.proofs.Laws.{days-on, is-date, number-before}
 use Rattle.utils.specs.declared.OptionalDay.{OptionalDay}
 use Rattle.utils.specs.declared.OptionalDay.the-variants.{Day, None}
 use Rattle.utils.specs.Weekday.{nthWeekdayOfMonth}
 use Rattle.utils.proofs.WeekdayLaws.{when-day, first-near, nth-weekday}
+use Rattle.rule_days.specs.Months.{anyOf}
+use Rattle.rule_days.proofs.MonthLaws.{Fits, _and_, by-month, year-range, near, fixed, nth}
 use Rattle.rule_days.specs.Days.{contains, insert, insertIf, insertDay, isDay}
 use Rattle.rule_days.specs.Inner.{isBetween, everyYearHas, everyBetween}
-use Rattle.japan.specs.Japan.{substituteDay, addWithSubstitute, addDayWithSubstitute, vernalDays, autumnalDays, equinox, calculateAutumnalEquinox, applyGoldenWeekRules, getJapanHolidays}
-use Rattle.japan.specs.Inner.{isWithSubstitute, isDayWithSubstitute, isBridgeDay, isHolidayToMarch, isGoldenWeekHoliday, isHolidayFromJuly, isJapanHoliday}
-use Rattle.rule_days.proofs.DayLaws.{or-assoc, or-swap, or-false, contains-none, contains-insert, contains-if, not-between, every-year-date}
+use Rattle.japan.specs.Japan.{substituteDay, addWithSubstitute, addDayWithSubstitute, vernalDays, autumnalDays, equinox, applyGoldenWeekRules, getJapanHolidays}
+use Rattle.japan.specs.JapanMonths.{isWithSubstitute, isDayWithSubstitute, isBridgeDay, japanRules}
+use Rattle.rule_days.proofs.DayLaws.{or-assoc, or-false, contains-none, contains-insert, contains-if, not-between, every-year-date}
 
 -- The equinoxes: what is computed of a table holds of each of its days.
 between : (low high : ℕ) (list : List ℕ) (k i : ℕ) → everyBetween low high list k ≡ true → i < k → (low ≤ getD list i 0) × (getD list i 0 ≤ high)
@@ -34,10 +38,8 @@ between low high list (suc k) i e h =
     (λ (q : i < k). between low high list k i (and-right (l && u) _ e) q)
     (eq-or-lt-of-le (le-of-suc-le-suc h))
 
-pub equinox-date : (days : List ℕ) (m y : ℕ) → 2020 ≤ y → y ≤ 2030 → (1 ≤ m) × (m ≤ 12) × (everyBetween 1 28 days 11 ≡ true) → isDate y m (getD days (y - 2020) 0) ≡ true
-equinox-date days m y l h k =
-    let d = between 1 28 days 11 (y - 2020) (k .2) (omega arith) in
-    date-by y m _ (omega arith, omega arith) (k .0, k .1) (d .0, omega (arith, d, month-low y m (k .0) (k .1)))
+pub equinox-day : (days : List ℕ) (y : ℕ) → 2020 ≤ y → y ≤ 2030 → everyBetween 1 28 days 11 ≡ true → getD days (y - 2020) 0 ≤ 31
+equinox-day days y l h k = omega (arith, between 1 28 days 11 (y - 2020) k (omega arith))
 
 day-order : (y m d e : ℕ) → d ≤ e → dayNumber y m d ≤ dayNumber y m e
 unfolding dayNumber
@@ -168,20 +170,6 @@ golden {ds} {test} {a} y s h =
       high = up-to-if _ _ _ b (up-to-if _ _ _ b (up-to-if _ _ _ b (up-to-if _ _ _ b (up-to-insert _ _ b (i .high) (day-order y 5 4 6 (lit≤ tt))) (day-order y 5 2 6 (lit≤ tt))) (omega arith)) (omega arith)) (omega arith);
     }
 
--- The code asks for those of July to October that are on a Monday together.
-pub mondays-apart : (y n : ℕ) → (isDay (nthWeekdayOfMonth y 7 monday 3) n || isDay (nthWeekdayOfMonth y 9 monday 3) n || isDay (nthWeekdayOfMonth y 10 monday 2) n || isWithSubstitute (dayNumber y 8 11) n || isDayWithSubstitute (calculateAutumnalEquinox y) n || isWithSubstitute (dayNumber y 11 3) n || isWithSubstitute (dayNumber y 11 23) n || eqb n (dayNumber y 12 31)) ≡ isHolidayFromJuly y n
-unfolding isHolidayFromJuly
-mondays-apart y n =
-    let nth : ℕ → ℕ → Bool = λ m k. isDay (nthWeekdayOfMonth y m monday k) n in
-    let fixed : ℕ → ℕ → Bool = λ m d. isWithSubstitute (dayNumber y m d) n in
-    ap (λ (t : Bool). t || fixed 11 3 || fixed 11 23 || eqb n (dayNumber y 12 31))
-    (apart (nth 7 3) (fixed 8 11) (nth 9 3) (isDayWithSubstitute (calculateAutumnalEquinox y) n) (nth 10 2))
-  where
-    apart : (m f r a s : Bool) → (m || r || s || f || a) ≡ (m || f || r || a || s)
-    apart m f r a s =
-        let before-r = ap (λ (t : Bool). t || a) (or-swap m (r || s) f) in
-        (simp or-assoc at before-r) ∙ or-swap (m || f || r) s a
-
 -- A day but 2 to 6 May is no bridge day.
 pub not-bridge-day : (y n a b : ℕ) → a ≡ dayNumber y 5 2 → b ≡ dayNumber y 5 6 → isBetween a b n ≡ false → false ≡ isBridgeDay y n
 unfolding isBridgeDay
@@ -209,28 +197,74 @@ in-order y m d k e h o =
     let l = number-before (date y m d) (date y k e) s t (inr (refl, before m d k e (and-right (a && b) _ o))) in
     omega (arith, l)
 
--- The shorter account is the Rust's set, in years 1 to 9999.
-pub japan-contains : (y n : ℕ) → (1 ≤ y) × (y ≤ lastYear) → contains (getJapanHolidays y) n ≡ isJapanHoliday y n
-unfolding getJapanHolidays isHolidayToMarch isGoldenWeekHoliday isHolidayFromJuly
-japan-contains y n h =
-    let s = add start (dayNumber y 1 1) (omega arith) in
-    let s = add s (dayNumber y 1 2) (in-order y 1 1 1 2 h refl) in
-    let s = add s (dayNumber y 1 3) (in-order y 1 2 1 3 h refl) in
-    let s = put-day s _ (dayNumber y 1 14) (in-order y 1 3 1 14 h refl) (λ t e. nth-high y 1 monday 2 t e (lit≤ tt)) in
-    let s = add s (dayNumber y 2 11) (omega (arith, in-order y 1 14 2 11 h refl)) in
-    let s = add s (dayNumber y 2 23) (in-order y 2 11 2 23 h refl) in
-    let s = add-day s _ (dayNumber y 3 22) (in-order y 2 23 3 22 h refl)
-    (λ t e. omega (arith, equinox-near vernalDays 20 21 3 y t refl e, in-order y 2 23 3 20 h refl, in-order y 3 21 3 22 h refl)) in
-    let s = add s (dayNumber y 4 29) (omega (arith, in-order y 3 22 4 29 h refl)) in
-    let s = add s (dayNumber y 5 3) (in-order y 4 29 5 3 h refl) in
-    let s = golden y s (in-order y 5 3 5 5 h refl) in
-    let s = put-day s _ (dayNumber y 7 21) (omega (arith, in-order y 5 6 7 21 h refl)) (λ t e. nth-high y 7 monday 3 t e (lit≤ tt)) in
-    let s = add s (dayNumber y 8 11) (omega (arith, in-order y 7 21 8 11 h refl)) in
-    let s = put-day s _ (dayNumber y 9 21) (in-order y 8 11 9 21 h refl) (λ t e. nth-high y 9 monday 3 t e (lit≤ tt)) in
-    let s = add-day s _ (dayNumber y 9 24) (omega (arith, in-order y 9 21 9 24 h refl))
-    (λ t e. omega (arith, equinox-near autumnalDays 22 23 9 y t refl e, in-order y 9 21 9 22 h refl, in-order y 9 23 9 24 h refl)) in
-    let s = put-day s _ (dayNumber y 10 14) (omega (arith, in-order y 9 24 10 14 h refl)) (λ t e. nth-high y 10 monday 2 t e (lit≤ tt)) in
-    let s = add s (dayNumber y 11 3) (omega (arith, in-order y 10 14 11 3 h refl)) in
-    let s = add s (dayNumber y 11 23) (in-order y 11 3 11 23 h refl) in
-    let s = put s (dayNumber y 12 31) (dayNumber y 12 31) (in-order y 11 23 12 31 h refl) (omega arith) in
-    s .same n ∙ simp or-assoc
+-- ---- the months
+
+-- a date or its substitute is no day beyond them
+not-with : (first last d n : ℕ) → first ≤ d → d + 1 ≤ last → isBetween first last n ≡ false → false ≡ isWithSubstitute d n
+not-with first last d n l u e =
+    let not-date : eqb n d ≡ false = sym (not-between first last d n l (omega arith) e) in
+    let not-next : eqb n (d + 1) ≡ false = sym (not-between first last (d + 1) n (omega arith) u e) in
+    simp (not-date, not-next, and-false)
+
+module _ (day : CalendarDay) (s : SameDay day) (h : day .number ≤ lastDay) where
+  abbrev y : ℕ
+  y = day .date .year
+
+  abbrev n : ℕ
+  n = day .number
+
+  abbrev month : ℕ
+  month = day .date .month
+
+  substituted-in : (m d : ℕ) → everyYearHas m d ≡ true → everyYearHas m (d + 1) ≡ true → Fits month (m ∷ []) (isWithSubstitute (dayNumber y m d) n)
+  substituted-in m d p q =
+      near day s h m d 1 (isWithSubstitute (dayNumber y m d) n) p q (not-with _ _ (dayNumber y m d) n (omega arith) (omega arith))
+
+  equinox-in : (days : List ℕ) (m low high : ℕ) → everyBetween low high days 11 ≡ true → everyYearHas m low ≡ true → everyYearHas m (low + 2) ≡ true → low + 1 ≡ high → Fits month (m ∷ []) (isDayWithSubstitute (equinox days y m) n)
+  equinox-in days m low high k p q next = near day s h m low 2 (isDayWithSubstitute (equinox days y m) n) p q (by (equinox days y m) refl)
+    where
+      by : (r : OptionalDay) → equinox days y m ≡ r → isBetween (dayNumber y m low) (dayNumber y m low + 2) n ≡ false → false ≡ isDayWithSubstitute r n
+      by (Day t) f e = let r = equinox-near days low high m y t k f in not-with _ _ t n (r .0) (omega (arith, r, days-on y m low 1, ap (dayNumber y m) next)) e
+      by None f e = refl
+
+  bridge-in : Fits month (5 ∷ []) (isBridgeDay y n)
+  bridge-in = near day s h 5 2 4 (isBridgeDay y n) refl refl (not-bridge-day y n _ _ refl (sym (days-on y 5 2 4)))
+
+  -- the insertions of the Rust, one after the other, in years 1 to 9999
+  pub japan-by-month : contains (getJapanHolidays y) n ≡ anyOf month (japanRules y n)
+  unfolding getJapanHolidays
+  japan-by-month =
+      let years = year-range day s h in
+      let a = add start (dayNumber y 1 1) (omega arith) in
+      let a = add a (dayNumber y 1 2) (in-order y 1 1 1 2 years refl) in
+      let a = add a (dayNumber y 1 3) (in-order y 1 2 1 3 years refl) in
+      let a = put-day a _ (dayNumber y 1 14) (in-order y 1 3 1 14 years refl) (λ t e. nth-high y 1 monday 2 t e (lit≤ tt)) in
+      let a = add a (dayNumber y 2 11) (omega (arith, in-order y 1 14 2 11 years refl)) in
+      let a = add a (dayNumber y 2 23) (in-order y 2 11 2 23 years refl) in
+      let a = add-day a _ (dayNumber y 3 22) (in-order y 2 23 3 22 years refl)
+      (λ t e. omega (arith, equinox-near vernalDays 20 21 3 y t refl e, in-order y 2 23 3 20 years refl, in-order y 3 21 3 22 years refl)) in
+      let a = add a (dayNumber y 4 29) (omega (arith, in-order y 3 22 4 29 years refl)) in
+      let a = add a (dayNumber y 5 3) (in-order y 4 29 5 3 years refl) in
+      let a = golden y a (in-order y 5 3 5 5 years refl) in
+      let a = put-day a _ (dayNumber y 7 21) (omega (arith, in-order y 5 6 7 21 years refl)) (λ t e. nth-high y 7 monday 3 t e (lit≤ tt)) in
+      let a = add a (dayNumber y 8 11) (omega (arith, in-order y 7 21 8 11 years refl)) in
+      let a = put-day a _ (dayNumber y 9 21) (in-order y 8 11 9 21 years refl) (λ t e. nth-high y 9 monday 3 t e (lit≤ tt)) in
+      let a = add-day a _ (dayNumber y 9 24) (omega (arith, in-order y 9 21 9 24 years refl))
+      (λ t e. omega (arith, equinox-near autumnalDays 22 23 9 y t refl e, in-order y 9 21 9 22 years refl, in-order y 9 23 9 24 years refl)) in
+      let a = put-day a _ (dayNumber y 10 14) (omega (arith, in-order y 9 24 10 14 years refl)) (λ t e. nth-high y 10 monday 2 t e (lit≤ tt)) in
+      let a = add a (dayNumber y 11 3) (omega (arith, in-order y 10 14 11 3 years refl)) in
+      let a = add a (dayNumber y 11 23) (in-order y 11 3 11 23 years refl) in
+      let a = put a (dayNumber y 12 31) (dayNumber y 12 31) (in-order y 11 23 12 31 years refl) (omega arith) in
+      a .same n
+      ∙ by-month month false (japanRules y n)
+      (substituted-in 1 1 refl refl and substituted-in 1 2 refl refl and substituted-in 1 3 refl refl and nth day s h 1 monday 2
+      and substituted-in 2 11 refl refl and substituted-in 2 23 refl refl
+      and equinox-in vernalDays 3 20 21 refl refl refl refl
+      and substituted-in 4 29 refl refl
+      and substituted-in 5 3 refl refl and substituted-in 5 5 refl refl and fixed day s h 5 4 refl refl and bridge-in
+      and nth day s h 7 monday 3
+      and substituted-in 8 11 refl refl
+      and nth day s h 9 monday 3 and equinox-in autumnalDays 9 22 23 refl refl refl refl
+      and nth day s h 10 monday 2
+      and substituted-in 11 3 refl refl and substituted-in 11 23 refl refl
+      and fixed day s h 12 31 refl refl and tt)

@@ -1,2 +1,2 @@
 pub mod Japan
-pub mod Inner
+pub mod JapanMonths

@@ -1,21 +1,27 @@
--- The holidays of Canada as the code decides them.
+-- The holidays of Canada by their months.
 -- Assumes nothing.
-use Prim.Native.Nat.{ℕ, _+_}
+use Prim.Native.Nat.{ℕ, _+_, _≤_}
 use mathlib.Core.Path.{_≡_, refl, ap, sym, _∙_}
-use mathlib.Core.Bool.{Bool, true, false, cond, _&&_, _||_}
+use mathlib.Core.Bool.{Bool, true, false, cond, _&&_}
+use mathlib.Core.List.{[], _∷_}
 use lib.Dec.{leb, eqb, lit≤}
 use native.Mathlib.Omega.{arith}
 use borrow.Author.Tests.{eqb-true, eqb-false, ne-eqb}
-use Rattle.gregorian.specs.Calendar.{monday, friday, saturday, sunday, dayNumber, weekdayOf}
+use Rattle.gregorian.specs.Calendar.{monday, friday, saturday, sunday, lastDay, dayNumber, weekdayOf}
+use Rattle.gregorian.specs.declared.days.CalendarDay.{CalendarDay}
+use Rattle.gregorian.specs.Inner.{SameDay}
 use Rattle.gregorian.proofs.Laws.{days-on}
 use Rattle.gregorian.proofs.Weekdays.{weekday-after}
 use Rattle.utils.specs.declared.OptionalDay.the-variants.{None}
 use Rattle.utils.specs.Weekday.{nthWeekdayOfMonth}
 use Rattle.utils.proofs.WeekdayLaws.{last-is}
-use Rattle.utils.specs.Easter.{calculateGoodFriday}
-use Rattle.rule_days.specs.Days.{contains, isDay, matchWeekend, adjustForWeekend}
+use Rattle.rule_days.specs.Days.{contains, isDay, matchWeekend}
+use Rattle.rule_days.specs.Months.{anyOf}
+use Rattle.rule_days.specs.Inner.{isBetween}
+use Rattle.rule_days.proofs.DayLaws.{contains-none, contains-insert, contains-day, day-low, not-between, not-moved}
+use Rattle.rule_days.proofs.MonthLaws.{Fits, _and_, by-month, near, observed, nth, good-friday}
 use Rattle.markets.specs.Canada.{familyDay, victoriaDay, boxingDay, getCanadaHolidays}
-use Rattle.rule_days.proofs.DayLaws.{or-assoc, or-swap, contains-none, contains-insert, contains-day, day-low, not-nth}
+use Rattle.markets.specs.MonthFirst.{canadaRules}
 
 -- The `match` on both weekdays needs only that of Boxing Day: (_, Sat) and (_, Sun) after the first two arms are never taken.
 match-both : (n : ℕ) (s t : Bool) → eqb (weekdayOf (n + 1)) saturday ≡ s → eqb (weekdayOf (n + 1)) sunday ≡ t → cond (eqb (weekdayOf n) friday && s) (n + 1 + 2) (cond (eqb (weekdayOf n) saturday && t) (n + 1 + 2) (cond s (n + 1 + 2) (cond t (n + 1 + 1) (n + 1)))) ≡ cond s (n + 1 + 2) (cond t (n + 1 + 2) (n + 1))
@@ -28,30 +34,45 @@ pub boxing-day-is : (y : ℕ) → boxingDay y ≡ matchWeekend (dayNumber y 12 2
 unfolding boxingDay matchWeekend
 boxing-day-is y = rw (days-on y 12 25 1) (match-both (dayNumber y 12 25) _ _ refl refl)
 
--- Those of a Monday stand together, as the code asks for them.
-mondays-together : (a b c d e f g : Bool) → (a || b || c || d || e || f || g) ≡ (a || (b || d || f || g) || c || e)
-mondays-together a b c d e f g =
-    let past-e = or-swap (a || b || c || d) e (f || g) in
-    let past-c = ap (λ (t : Bool). t || e) (or-swap (a || b) c (d || f || g)) in
-    simp or-assoc ((simp or-assoc at past-e) ∙ (simp or-assoc at past-c))
+-- A day but 26 to 28 December is not Boxing Day.
+pub not-boxing-day : (y n d : ℕ) → d ≡ dayNumber y 12 26 → isBetween d (d + 2) n ≡ false → false ≡ eqb n (boxingDay y)
+not-boxing-day y n d e h =
+    not-moved d (d + 2) d (d + 2) (d + 2) n (omega arith) (omega arith) (omega arith) h
+    ∙ ap (λ (i : ℕ). eqb n (matchWeekend i (i + 2) (i + 2))) e
+    ∙ ap (eqb n) (sym (boxing-day-is y))
 
-pub canada-contains : (y n : ℕ) → contains (getCanadaHolidays y) n ≡ (eqb n (adjustForWeekend (dayNumber y 1 1)) || (isDay (familyDay y) n || eqb n (victoriaDay y) || isDay (nthWeekdayOfMonth y 9 monday 1) n || isDay (nthWeekdayOfMonth y 10 monday 2) n) || isDay (calculateGoodFriday y) n || eqb n (adjustForWeekend (dayNumber y 7 1)) || eqb n (adjustForWeekend (dayNumber y 12 25)) || eqb n (boxingDay y))
-unfolding getCanadaHolidays
-canada-contains y n =
-    let observed : ℕ → ℕ → Bool = λ m d. eqb n (adjustForWeekend (dayNumber y m d)) in
-    let nth : ℕ → ℕ → Bool = λ m k. isDay (nthWeekdayOfMonth y m monday k) n in
-    let together = mondays-together (observed 1 1) (isDay (familyDay y) n) (isDay (calculateGoodFriday y) n) (eqb n (victoriaDay y)) (observed 7 1) (nth 9 1) (nth 10 2) in
-    simp (contains-day, contains-insert, contains-none) (ap (λ (t : Bool). t || observed 12 25 || eqb n (boxingDay y)) together)
+module _ (day : CalendarDay) (s : SameDay day) (h : day .number ≤ lastDay) where
+  abbrev year : ℕ
+  year = day .date .year
 
--- Family Day and Victoria Day are on no other weekday.
-pub not-family-day : (y n : ℕ) → (weekdayOf n ≡ monday → ⊥) → false ≡ isDay (familyDay y) n
-not-family-day y n h = by (leb 2008 y)
-  where
-    by : (b : Bool) → false ≡ isDay (cond b (nthWeekdayOfMonth y 2 monday 3) None) n
-    by true = not-nth y 2 monday 3 n h
-    by false = refl
+  abbrev n : ℕ
+  n = day .number
 
-pub not-victoria-day : (y n : ℕ) → (weekdayOf n ≡ monday → ⊥) → false ≡ eqb n (victoriaDay y)
-not-victoria-day y n h =
-    let is-monday = last-is monday (dayNumber y 5 24) (lit≤ tt) (omega (arith, day-low y 5 24)) .0 in
-    sym (ne-eqb n (victoriaDay y) (λ q. h (ap weekdayOf q ∙ is-monday)))
+  abbrev month : ℕ
+  month = day .date .month
+
+  from-2008 : Fits month (2 ∷ []) (isDay (familyDay year) n)
+  from-2008 = by (leb 2008 year)
+    where
+      by : (b : Bool) → Fits month (2 ∷ []) (isDay (cond b (nthWeekdayOfMonth year 2 monday 3) None) n)
+      by true e = nth day s h 2 monday 3 e
+      by false e = cc
+
+  -- from 18 to 24 May
+  victoria : Fits month (5 ∷ []) (eqb n (victoriaDay year))
+  victoria =
+      let last = last-is monday (dayNumber year 5 24) (lit≤ tt) (omega (arith, day-low year 5 24)) .1 in
+      let d = days-on year 5 18 6 in
+      near day s h 5 18 6 (eqb n (victoriaDay year)) refl refl (not-between _ _ (victoriaDay year) n (omega (arith, last, d)) (omega (arith, last, d)))
+
+  -- from 26 to 28 December
+  boxing : Fits month (12 ∷ []) (eqb n (boxingDay year))
+  boxing = near day s h 12 26 2 (eqb n (boxingDay year)) refl refl (not-boxing-day year n _ refl)
+
+  pub canada-by-month : contains (getCanadaHolidays year) n ≡ anyOf month (canadaRules year n)
+  unfolding getCanadaHolidays
+  canada-by-month =
+      simp (contains-day, contains-insert, contains-none)
+      (by-month month false (canadaRules year n)
+      (observed day s h 1 1 refl refl and from-2008 and good-friday day s h and victoria and observed day s h 7 1 refl refl and nth day s h 9 monday 1 and nth day s h 10 monday 2
+      and observed day s h 12 25 refl refl and boxing and tt))

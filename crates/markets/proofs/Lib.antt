@@ -2,4 +2,5 @@ pub mod UsLaws
 pub mod UkLaws
 pub mod CanadaLaws
 pub mod MarketLaws
+pub mod MonthFirst
 pub mod YearLaws

@@ -9,8 +9,7 @@ use lib.ListN.{length, List·getD-eq-default}
 use native.Mathlib.Decide.{decLe}
 use native.Mathlib.Omega.{arith}
 use borrow.Author.Tests.{lt-ltb, le-ltb, ltb-true, lt-leb, le-leb}
-use Rattle.gregorian.specs.Calendar.{lastYear, lastDay, dateOf}
-use Rattle.gregorian.proofs.Laws.{is-date, date-of-is}
+use Rattle.gregorian.specs.Calendar.{dateOf}
 use Rattle.gregorian.proofs.Total.{upto}
 use Rattle.rule_days.specs.Days.{contains}
 use Rattle.markets.specs.Us.{getUsHolidays}
@@ -31,12 +30,6 @@ unfolding isMarket
 market-code m e = ltb-true m (length holidaysByCode) e
 
 -- ---- the holidays
-
--- the year of a day number
-pub year-range : (n y : ℕ) → (1 ≤ n) × (n ≤ lastDay) → y ≡ dateOf n .year → (1 ≤ y) × (y ≤ lastYear)
-year-range n y h e =
-    let d = is-date _ _ _ (date-of-is n (h .0) (h .1)) in
-    omega (arith, e, d .exists .y-low, d .y-high)
 
 -- NYSE and NASDAQ
 pub us-market : (m : ℕ) → m < 2 → holidays m ≡ getUsHolidays

@@ -1,4 +1,4 @@
--- The holidays of the UK as the code decides them.
+-- The holidays of the UK by their months.
 -- Assumes nothing.
 use Prim.Native.Nat.{ℕ, _+_, _≤_}
 use mathlib.Core.Path.{_≡_, refl, ap, sym, _∙_}
@@ -7,16 +7,18 @@ use mathlib.Core.List.{List}
 use lib.Dec.{eqb, lit≤}
 use native.Mathlib.Omega.{arith}
 use borrow.Author.Tests.{eqb-true, eqb-false, ne-eqb}
-use Rattle.gregorian.specs.Calendar.{monday, friday, saturday, sunday, dayNumber, weekdayOf}
+use Rattle.gregorian.specs.Calendar.{monday, friday, saturday, sunday, lastDay, dayNumber, weekdayOf}
 use Rattle.gregorian.proofs.Laws.{days-on}
 use Rattle.gregorian.proofs.Weekdays.{weekday-after}
-use Rattle.utils.specs.Weekday.{nthWeekdayOfMonth, lastWeekdayOfMonth}
-use Rattle.utils.specs.Easter.{calculateGoodFriday, calculateEasterMonday}
-use Rattle.rule_days.specs.Days.{contains, insert, isDay, adjustForWeekend}
+use Rattle.gregorian.specs.declared.days.CalendarDay.{CalendarDay}
+use Rattle.gregorian.specs.Inner.{SameDay}
+use Rattle.rule_days.specs.Days.{contains, insert, adjustForWeekend}
+use Rattle.rule_days.specs.Months.{anyOf}
 use Rattle.rule_days.specs.Inner.{isBetween}
 use Rattle.markets.specs.Uk.{addBoxingDay, getUkHolidays}
-use Rattle.markets.specs.Inner.{isOneOfTwo, isChristmasOrBoxingDay}
-use Rattle.rule_days.proofs.DayLaws.{or-assoc, contains-none, contains-insert, contains-day, not-between, on-key, on-weekday}
+use Rattle.markets.specs.MonthFirst.{isOneOfTwo, isChristmasOrBoxingDay, ukRules}
+use Rattle.rule_days.proofs.DayLaws.{contains-none, contains-insert, contains-day, not-between, on-key, on-weekday}
+use Rattle.rule_days.proofs.MonthLaws.{_and_, by-month, near, observed, nth, last, good-friday, easter-monday}
 
 -- The arms of the code, one of a weekday k, and the last.
 pub christmas-on : (k y n d w : ℕ) → w ≡ k → w ≡ weekdayOf d → d ≡ dayNumber y 12 25 → isOneOfTwo n d k ≡ isChristmasOrBoxingDay y n
@@ -81,6 +83,21 @@ two-days-of ds y n false false false ep eq er =
     let b = ap (λ (i : ℕ). adjustForWeekend i) (d 1) ∙ boxing-stays _ (eqb-false _ friday ep) (eqb-false _ saturday eq) in
     simp (ep, eq, er) (two-days ds _ _ _ (dayNumber y 12 25) (dayNumber y 12 25 + 1) n (stays _ (eqb-false _ saturday eq) (eqb-false _ sunday er)) refl b)
 
-pub uk-contains : (y n : ℕ) → contains (getUkHolidays y) n ≡ (eqb n (adjustForWeekend (dayNumber y 1 1)) || isDay (calculateGoodFriday y) n || isDay (calculateEasterMonday y) n || (isDay (nthWeekdayOfMonth y 5 monday 1) n || isDay (lastWeekdayOfMonth y 5 monday) n || isDay (lastWeekdayOfMonth y 8 monday) n) || isChristmasOrBoxingDay y n)
-unfolding getUkHolidays
-uk-contains y n = two-days-of _ y n _ _ _ refl refl refl ∙ simp (or-assoc, contains-day, contains-insert, contains-none)
+module _ (day : CalendarDay) (s : SameDay day) (h : day .number ≤ lastDay) where
+  abbrev year : ℕ
+  year = day .date .year
+
+  abbrev n : ℕ
+  n = day .number
+
+  abbrev month : ℕ
+  month = day .date .month
+
+  pub uk-by-month : contains (getUkHolidays year) n ≡ anyOf month (ukRules year n)
+  unfolding getUkHolidays
+  uk-by-month =
+      two-days-of _ year n _ _ _ refl refl refl
+      ∙ simp (contains-day, contains-insert, contains-none)
+      (by-month month false (ukRules year n)
+      (observed day s h 1 1 refl refl and good-friday day s h and easter-monday day s h and nth day s h 5 monday 1 and last day s h 5 monday refl and last day s h 8 monday refl
+      and near day s h 12 25 3 (isChristmasOrBoxingDay year n) refl refl (λ e. one-of-two-away year n _ e refl) and tt))

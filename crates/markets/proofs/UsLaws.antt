@@ -1,14 +1,48 @@
--- The holidays of the US as the code decides them.
+-- The holidays of the US by their months.
 -- Assumes nothing.
-use Prim.Native.Nat.{ℕ}
-use mathlib.Core.Path.{_≡_}
-use mathlib.Core.Bool.{_&&_, _||_}
+use Prim.Native.Nat.{ℕ, _+_, _-_, _≤_}
+use mathlib.Core.Path.{_≡_, refl}
+use mathlib.Core.Bool.{false, _&&_}
+use mathlib.Core.List.{[], _∷_}
 use lib.Dec.{leb, eqb}
-use Rattle.utils.specs.Easter.{calculateGoodFriday}
-use Rattle.rule_days.specs.Days.{contains, isDay}
-use Rattle.markets.specs.Us.{newYearsDay, mlkDay, presidentsDay, memorialDay, independenceDay, laborDay, thanksgivingDay, juneteenth, christmasDay, getUsHolidays}
-use Rattle.rule_days.proofs.DayLaws.{or-assoc, contains-none, contains-insert, contains-if, contains-day}
+use native.Mathlib.Omega.{arith}
+use Rattle.gregorian.specs.Calendar.{monday, thursday, lastDay, dayNumber}
+use Rattle.gregorian.specs.declared.days.CalendarDay.{CalendarDay}
+use Rattle.gregorian.specs.Inner.{SameDay}
+use Rattle.gregorian.proofs.Laws.{days-on}
+use Rattle.gregorian.proofs.Tests.{and-right}
+use Rattle.rule_days.specs.Days.{contains}
+use Rattle.rule_days.specs.Months.{anyOf}
+use Rattle.rule_days.proofs.DayLaws.{contains-none, contains-insert, contains-if, contains-day, not-moved}
+use Rattle.rule_days.proofs.MonthLaws.{Fits, _and_, by-month, near, observed, nth, last, good-friday}
+use Rattle.markets.specs.Us.{independenceDay, juneteenth, getUsHolidays}
+use Rattle.markets.specs.MonthFirst.{usRules}
 
-pub us-contains : (y n : ℕ) → contains (getUsHolidays y) n ≡ (eqb n (newYearsDay y) || eqb n (independenceDay y) || eqb n (christmasDay y) || leb 2021 y && eqb n (juneteenth y) || (isDay (mlkDay y) n || isDay (presidentsDay y) n || isDay (memorialDay y) n || isDay (laborDay y) n) || isDay (thanksgivingDay y) n || isDay (calculateGoodFriday y) n)
-unfolding getUsHolidays
-us-contains y n = simp (or-assoc, contains-day, contains-if, contains-insert, contains-none)
+module _ (day : CalendarDay) (s : SameDay day) (h : day .number ≤ lastDay) where
+  abbrev year : ℕ
+  year = day .date .year
+
+  abbrev n : ℕ
+  n = day .number
+
+  abbrev month : ℕ
+  month = day .date .month
+
+  -- from 3 to 5 July
+  independence : Fits month (7 ∷ []) (eqb n (independenceDay year))
+  independence =
+      let july4 = dayNumber year 7 4 in
+      let d = days-on year 7 3 1 in
+      near day s h 7 3 2 (eqb n (independenceDay year)) refl refl
+      (not-moved _ _ july4 (july4 - 1) (july4 + 1) n (omega (arith, d)) (omega (arith, d)) (omega (arith, d)))
+
+  from-2021 : Fits month (6 ∷ []) (leb 2021 year && eqb n (juneteenth year))
+  from-2021 e = observed day s h 6 19 refl refl (and-right (leb 2021 year) _ e)
+
+  pub us-by-month : contains (getUsHolidays year) n ≡ anyOf month (usRules year n)
+  unfolding getUsHolidays
+  us-by-month =
+      simp (contains-day, contains-if, contains-insert, contains-none)
+      (by-month month false (usRules year n)
+      (observed day s h 1 1 refl refl and independence and observed day s h 12 25 refl refl and from-2021 and nth day s h 1 monday 3 and nth day s h 2 monday 3
+      and last day s h 5 monday refl and nth day s h 9 monday 1 and nth day s h 11 thursday 4 and good-friday day s h and tt))

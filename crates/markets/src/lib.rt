@@ -6,11 +6,13 @@ pub mod years;
 
 ghost use mathlib.Core.Path.{_≡_};
 ghost use Prim.Native.Nat.{_≤_};
-ghost use Rattle.gregorian.specs.Calendar.{lastDay, dateOf};
+ghost use Rattle.gregorian.specs.Calendar.{lastDay};
+ghost use Rattle.gregorian.specs.Inner.{SameDay};
 ghost use Rattle.markets.specs.Markets.{isMarket, isWeekend, isHoliday, isTradingDay};
 use canada::holidays::is_canada_holiday;
 use gregorian::SATURDAY;
 use gregorian::SUNDAY;
+use gregorian::days::CalendarDay;
 use japan::holidays::is_japan_holiday;
 use uk::holidays::is_uk_holiday;
 use us::holidays::is_us_holiday;
@@ -41,24 +43,24 @@ pub fn is_weekend(n: u32) -> bool
     (weekday == SATURDAY) | (weekday == SUNDAY)
 }
 
-// [is-holiday]: a code that is no market's has no holidays. The year is that of day n.
-pub fn is_holiday(market: u32, year: u32, n: u32) -> bool
-    requires { ⌜ (1 ≤ n) × (n ≤ lastDay) × (year ≡ dateOf n .year) ⌝ }
-    ensures { λ r. ⌜ r ≡ isHoliday market n ⌝ }
+// [is-holiday]: a code that is no market's has no holidays.
+pub fn is_holiday(market: u32, day: CalendarDay) -> bool
+    requires { ⌜ SameDay day × (day .number ≤ lastDay) ⌝ }
+    ensures { λ r. ⌜ r ≡ isHoliday market (day .number) ⌝ }
 {
     match market {
-        NYSE | NASDAQ => is_us_holiday(year, n),
-        LSE => is_uk_holiday(year, n),
-        TSE => is_japan_holiday(year, n),
-        TSX => is_canada_holiday(year, n),
+        NYSE | NASDAQ => is_us_holiday(day),
+        LSE => is_uk_holiday(day),
+        TSE => is_japan_holiday(day),
+        TSX => is_canada_holiday(day),
         _ => false,
     }
 }
 
-// [trading-day]. The year is that of day n.
-pub fn is_trading_day(market: u32, year: u32, n: u32) -> bool
-    requires { ⌜ (1 ≤ n) × (n ≤ lastDay) × (year ≡ dateOf n .year) ⌝ }
-    ensures { λ r. ⌜ r ≡ isTradingDay market n ⌝ }
+// [trading-day]
+pub fn is_trading_day(market: u32, day: CalendarDay) -> bool
+    requires { ⌜ SameDay day × (day .number ≤ lastDay) ⌝ }
+    ensures { λ r. ⌜ r ≡ isTradingDay market (day .number) ⌝ }
 {
-    !is_weekend(n) && !is_holiday(market, year, n)
+    !is_weekend(day.number) && !is_holiday(market, day)
 }

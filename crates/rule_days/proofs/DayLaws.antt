@@ -1,6 +1,6 @@
 -- The laws of lists of days, of the day of an answer, and of the days that every year has.
 -- Assumes nothing.
-use Prim.Native.Nat.{ℕ, _+_, _≤_}
+use Prim.Native.Nat.{ℕ, _+_, _-_, _≤_}
 use mathlib.Core.Path.{_≡_, refl, ap, sym, _∙_}
 use mathlib.Core.Bool.{Bool, true, false, cond, _&&_, _||_}
 use mathlib.Core.List.{List, [], _∷_, _++_}
@@ -11,15 +11,13 @@ use borrow.Author.Tests.{leb-true, le-leb, eqb-true, ne-eqb}
 use Rattle.gregorian.specs.Calendar.{saturday, sunday, weekdayOf, monthLengths, monthLength, dayNumber, lastYear, isDate}
 use Rattle.gregorian.proofs.Tests.{and-left, and-right}
 use Rattle.gregorian.proofs.Total.{upto}
-use Rattle.gregorian.proofs.Laws.{days-on, date-by}
+use Rattle.gregorian.proofs.Laws.{date-by}
 use Rattle.utils.specs.declared.OptionalDay.{OptionalDay}
 use Rattle.utils.specs.declared.OptionalDay.the-variants.{Day, None}
-use Rattle.utils.specs.Weekday.{mapDay, nthWeekdayOfMonth, lastWeekdayOfMonth}
+use Rattle.utils.specs.Weekday.{nthWeekdayOfMonth, lastWeekdayOfMonth}
 use Rattle.utils.proofs.WeekdayLaws.{nth-weekday, last-weekday}
-use Rattle.utils.specs.Easter.{easter, calculateEaster}
-use Rattle.utils.proofs.EasterLaws.{easter-range, easter-found}
-use Rattle.rule_days.specs.Days.{contains, insert, insertIf, insertDay, isDay, matchWeekend}
-use Rattle.rule_days.specs.Inner.{isBetween, isAroundEaster, everyYearHas}
+use Rattle.rule_days.specs.Days.{contains, insert, insertIf, insertDay, isDay, matchWeekend, adjustForWeekend}
+use Rattle.rule_days.specs.Inner.{isBetween, everyYearHas}
 
 pub or-assoc : (a b c : Bool) → (a || (b || c)) ≡ (a || b || c)
 or-assoc true b c = refl
@@ -89,16 +87,8 @@ not-nth y m w k n = other-weekday _ w n (λ d e. nth-weekday y m w k d e .weekda
 pub not-last : (y m w n : ℕ) → (weekdayOf n ≡ w → ⊥) → false ≡ isDay (lastWeekdayOfMonth y m w) n
 not-last y m w n = other-weekday _ w n (λ d e. last-weekday y m w d e .weekday)
 
--- Good Friday and Easter Monday are around Easter, and so none of them is another day.
-pub around-easter : (y : ℕ) → (dayNumber y 3 20 + 2 ≤ easter y) × (easter y + 1 ≤ dayNumber y 4 26)
-around-easter y = omega (arith, easter-range y, days-on y 3 20 2, days-on y 4 25 1)
-
-pub away-from-easter : (f : ℕ → ℕ) (y n : ℕ) → (1 ≤ y) × (y ≤ lastYear) → dayNumber y 3 20 ≤ f (easter y) → f (easter y) ≤ dayNumber y 4 26 → isAroundEaster y n ≡ false → false ≡ isDay (mapDay f (calculateEaster y)) n
-away-from-easter f y n h l u e =
-    not-between _ _ (f (easter y)) n l u e ∙ ap (λ (o : OptionalDay). isDay (mapDay f o) n) (sym (easter-found y (h .0) (h .1)))
-
 -- Where a `match` on the weekend leads to.
-pub match-between : (first last n s t : ℕ) → (first ≤ n) × (n ≤ last) → (first ≤ s) × (s ≤ last) → (first ≤ t) × (t ≤ last)
+match-between : (first last n s t : ℕ) → (first ≤ n) × (n ≤ last) → (first ≤ s) × (s ≤ last) → (first ≤ t) × (t ≤ last)
     → (first ≤ matchWeekend n s t) × (matchWeekend n s t ≤ last)
 unfolding matchWeekend
 match-between first last n s t h k l = by (eqb (weekdayOf n) saturday) (eqb (weekdayOf n) sunday)
@@ -107,6 +97,16 @@ match-between first last n s t h k l = by (eqb (weekdayOf n) saturday) (eqb (wee
     by true b = k
     by false true = l
     by false false = h
+
+-- A holiday that moves is no day beyond those that it moves to.
+pub not-moved : (first last d s t n : ℕ) → (first ≤ d) × (d ≤ last) → (first ≤ s) × (s ≤ last) → (first ≤ t) × (t ≤ last)
+    → isBetween first last n ≡ false → false ≡ eqb n (matchWeekend d s t)
+not-moved first last d s t n h k l =
+    let moved = match-between first last d s t h k l in
+    not-between first last (matchWeekend d s t) n (moved .0) (moved .1)
+
+pub not-observed : (d n : ℕ) → isBetween d (d + 2) n ≡ false → false ≡ eqb n (adjustForWeekend d)
+not-observed d n = not-moved d (d + 2) d (d + 2) (d + 1) n (omega arith) (omega arith) (omega arith)
 
 -- The arms of a `match` on the weekday of d, which is day n: one of a weekday k, and the last.
 pub on-key : (f g : ℕ → ℕ) (d n k : ℕ) → weekdayOf d ≡ k → d ≡ n → cond (eqb k saturday) (f d) (cond (eqb k sunday) (g d) d) ≡ matchWeekend n (f n) (g n)
@@ -122,6 +122,11 @@ on-weekday f g d n p q e =
 pub day-low : (y m d : ℕ) → d ≤ dayNumber y m d
 unfolding dayNumber
 day-low y m d = omega arith
+
+-- from one day of a month to another
+pub day-from : (y m d e : ℕ) → dayNumber y m d - d + e ≡ dayNumber y m e
+unfolding dayNumber
+day-from y m d e = omega arith
 
 -- A day that every year has is a date in each of years 1 to 9999.
 short-length : (y m : ℕ) → m ≤ 12 → getD (monthLengths 0) m 0 ≤ monthLength y m

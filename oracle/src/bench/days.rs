@@ -39,15 +39,11 @@ impl Days {
 
 pub fn run(report: &mut Report, days: &Days) {
     use TradingCalendar as Original;
+    let decembers = Days::decembers();
     is_trading_day(report, days);
-    is_trading_day(report, &Days::decembers());
-    on_day(
-        report,
-        days,
-        "is_holiday",
-        Original::is_holiday,
-        |market, it| tc_is_holiday(market, it.year, it.month, it.day),
-    );
+    is_trading_day(report, &decembers);
+    is_holiday(report, days);
+    is_holiday(report, &decembers);
     on_day(
         report,
         days,
@@ -78,6 +74,16 @@ fn is_trading_day(report: &mut Report, days: &Days) {
         "is_trading_day",
         TradingCalendar::is_trading_day,
         |market, it| tc_is_trading_day(market, it.year, it.month, it.day),
+    );
+}
+
+fn is_holiday(report: &mut Report, days: &Days) {
+    on_day(
+        report,
+        days,
+        "is_holiday",
+        TradingCalendar::is_holiday,
+        |market, it| tc_is_holiday(market, it.year, it.month, it.day),
     );
 }
 

@@ -20,13 +20,13 @@ unfolding isTradingDay
 returns c =
     let s = c .before .before in
     ap not (c .is-holiday .ensures)
-    ∙ other (isHoliday (s .before .args .market) (s .before .args .n)) _ (sym (s .is-weekend .ensures) ∙ not-true _ (c .before .if1 .taken))
+    ∙ other (isHoliday (s .before .args .market) (s .before .args .day .number)) _ (sym (s .is-weekend .ensures) ∙ not-true _ (c .before .if1 .taken))
 
 returns-2 : tie.Need-returns-2
 unfolding isTradingDay
 returns-2 c =
     let s = c .before in
-    c .if1 .left ∙ weekend (isHoliday (s .before .args .market) (s .before .args .n)) _ (sym (s .is-weekend .ensures) ∙ not-false _ (c .if1 .left))
+    c .if1 .left ∙ weekend (isHoliday (s .before .args .market) (s .before .args .day .number)) _ (sym (s .is-weekend .ensures) ∙ not-false _ (c .if1 .left))
 
 pub is-trading-day-spec : {M : Type 1} → statement M
 is-trading-day-spec =

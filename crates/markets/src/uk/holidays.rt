@@ -1,17 +1,19 @@
-// The holidays of LSE, as src/markets/uk/holidays.rs has them: docs/SCOPE.md [lse-holidays].
+// The holidays of LSE, as src/markets/uk/holidays.rs has them: docs/SCOPE.md [lse-holidays]. The month comes first [month-first]: an
+// arm computes the holidays that can fall in it alone.
 ghost use mathlib.Core.Path.{_≡_};
-ghost use mathlib.Core.Bool.{_||_};
 ghost use Prim.Native.Nat.{_≤_};
-ghost use Rattle.gregorian.specs.Calendar.{monday, lastYear};
+ghost use Rattle.gregorian.specs.Calendar.{monday, lastDay};
+ghost use Rattle.gregorian.specs.Inner.{SameDay};
 ghost use Rattle.utils.specs.Weekday.{nthWeekdayOfMonth, lastWeekdayOfMonth};
 ghost use Rattle.utils.specs.Easter.{calculateEasterMonday};
 ghost use Rattle.rule_days.specs.Days.{contains, isDay};
 ghost use Rattle.markets.specs.Uk.{getUkHolidays};
-ghost use Rattle.markets.specs.Inner.{isChristmasOrBoxingDay};
+ghost use Rattle.markets.specs.MonthFirst.{isChristmasOrBoxingDay};
 use gregorian::FRIDAY;
 use gregorian::MONDAY;
 use gregorian::SATURDAY;
 use gregorian::SUNDAY;
+use gregorian::days::CalendarDay;
 use rule_days::fixed_day;
 use rule_days::is_around_easter;
 use rule_days::is_between;
@@ -22,80 +24,83 @@ use utils::easter::calculate_easter_monday;
 use utils::last_weekday_of_month;
 use utils::nth_weekday_of_month;
 
-// Whether day n is a holiday of the year.
-pub fn is_uk_holiday(year: u32, n: u32) -> bool
-    requires { ⌜ (1 ≤ year) × (year ≤ lastYear) ⌝ }
-    ensures { λ r. ⌜ r ≡ contains (getUkHolidays year) n ⌝ }
+// Whether a day is a holiday of its year. On Monday if on a weekend: 1 January.
+pub fn is_uk_holiday(day: CalendarDay) -> bool
+    requires { ⌜ SameDay day × (day .number ≤ lastDay) ⌝ }
+    ensures { λ r. ⌜ r ≡ contains (getUkHolidays (day .date .year)) (day .number) ⌝ }
 {
-    is_observed(year, 1, 1, n)
-        | is_good_friday(year, n)
-        | is_easter_monday(year, n)
-        | is_bank_holiday(year, n)
-        | is_christmas_or_boxing_day(year, n)
+    let month = day.date.month;
+    match month {
+        1 => is_observed(day, 1, 1),
+        3 => is_good_friday(day) | is_easter_monday(day),
+        4 => is_good_friday(day) | is_easter_monday(day),
+        5 => is_early_may_bank_holiday(day) | is_spring_bank_holiday(day),
+        8 => is_summer_bank_holiday(day),
+        12 => is_christmas_or_boxing_day(day),
+        _ => false,
+    }
 }
 
-// Those of May and August, always on a Monday; on another day none of them is computed.
-fn is_bank_holiday(year: u32, n: u32) -> bool
-    ensures { λ r. ⌜ r ≡ (isDay (nthWeekdayOfMonth year 5 monday 1) n || isDay (lastWeekdayOfMonth year 5 monday) n || isDay (lastWeekdayOfMonth year 8 monday) n) ⌝ }
+fn is_easter_monday(day: CalendarDay) -> bool
+    requires { ⌜ SameDay day × (day .number ≤ lastDay) ⌝ }
+    ensures { λ r. ⌜ r ≡ isDay (calculateEasterMonday (day .date .year)) (day .number) ⌝ }
 {
-    if gregorian::weekday(n) != MONDAY {
+    if !is_around_easter(day.date) {
         return false;
     }
-    is_early_may_bank_holiday(year, n)
-        | is_spring_bank_holiday(year, n)
-        | is_summer_bank_holiday(year, n)
+    let OptionalDay::Day(easter_monday) = calculate_easter_monday(day.date.year) else {
+        return false;
+    };
+    day.number == easter_monday
 }
 
-fn is_easter_monday(year: u32, n: u32) -> bool
-    requires { ⌜ (1 ≤ year) × (year ≤ lastYear) ⌝ }
-    ensures { λ r. ⌜ r ≡ isDay (calculateEasterMonday year) n ⌝ }
+// The 1st Monday of May. On another weekday none of these is computed.
+fn is_early_may_bank_holiday(day: CalendarDay) -> bool
+    ensures { λ r. ⌜ r ≡ isDay (nthWeekdayOfMonth (day .date .year) 5 monday 1) (day .number) ⌝ }
 {
-    if !is_around_easter(year, n) {
+    if gregorian::weekday(day.number) != MONDAY {
         return false;
     }
-    let OptionalDay::Day(easter_monday) = calculate_easter_monday(year) else {
+    let OptionalDay::Day(early_may) = nth_weekday_of_month(day.date.year, 5, MONDAY, 1) else {
         return false;
     };
-    n == easter_monday
-}
-
-// The 1st Monday of May.
-fn is_early_may_bank_holiday(year: u32, n: u32) -> bool
-    ensures { λ r. ⌜ r ≡ isDay (nthWeekdayOfMonth year 5 monday 1) n ⌝ }
-{
-    let OptionalDay::Day(early_may) = nth_weekday_of_month(year, 5, MONDAY, 1) else {
-        return false;
-    };
-    n == early_may
+    day.number == early_may
 }
 
 // The last Monday of May.
-fn is_spring_bank_holiday(year: u32, n: u32) -> bool
-    ensures { λ r. ⌜ r ≡ isDay (lastWeekdayOfMonth year 5 monday) n ⌝ }
+fn is_spring_bank_holiday(day: CalendarDay) -> bool
+    ensures { λ r. ⌜ r ≡ isDay (lastWeekdayOfMonth (day .date .year) 5 monday) (day .number) ⌝ }
 {
-    let OptionalDay::Day(spring) = last_weekday_of_month(year, 5, MONDAY) else {
+    if gregorian::weekday(day.number) != MONDAY {
+        return false;
+    }
+    let OptionalDay::Day(spring) = last_weekday_of_month(day.date.year, 5, MONDAY) else {
         return false;
     };
-    n == spring
+    day.number == spring
 }
 
 // The last Monday of August.
-fn is_summer_bank_holiday(year: u32, n: u32) -> bool
-    ensures { λ r. ⌜ r ≡ isDay (lastWeekdayOfMonth year 8 monday) n ⌝ }
+fn is_summer_bank_holiday(day: CalendarDay) -> bool
+    ensures { λ r. ⌜ r ≡ isDay (lastWeekdayOfMonth (day .date .year) 8 monday) (day .number) ⌝ }
 {
-    let OptionalDay::Day(summer) = last_weekday_of_month(year, 8, MONDAY) else {
+    if gregorian::weekday(day.number) != MONDAY {
+        return false;
+    }
+    let OptionalDay::Day(summer) = last_weekday_of_month(day.date.year, 8, MONDAY) else {
         return false;
     };
-    n == summer
+    day.number == summer
 }
 
 // Two days: 25 and 28 December if Christmas Day is a Friday, 27 and 28 if a Saturday, 26 and 27 if a Sunday, else 25 and 26.
 // Only these four are compared.
-fn is_christmas_or_boxing_day(year: u32, n: u32) -> bool
-    requires { ⌜ (1 ≤ year) × (year ≤ lastYear) ⌝ }
-    ensures { λ r. ⌜ r ≡ isChristmasOrBoxingDay year n ⌝ }
+fn is_christmas_or_boxing_day(day: CalendarDay) -> bool
+    requires { ⌜ SameDay day × (day .number ≤ lastDay) × (day .date .month ≡ 12) ⌝ }
+    ensures { λ r. ⌜ r ≡ isChristmasOrBoxingDay (day .date .year) (day .number) ⌝ }
 {
-    let christmas = fixed_day(year, 12, 25);
+    let n = day.number;
+    let christmas = fixed_day(day, 12, 25);
     if !is_between(christmas, christmas + 3, n) {
         return false;
     }

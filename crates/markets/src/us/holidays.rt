@@ -1,15 +1,18 @@
-// The holidays of NYSE and NASDAQ, as src/markets/us/holidays.rs has them: docs/SCOPE.md [us-holidays].
+// The holidays of NYSE and NASDAQ, as src/markets/us/holidays.rs has them: docs/SCOPE.md [us-holidays]. The month comes first
+// [month-first]: an arm computes the holidays that can fall in it alone.
 ghost use mathlib.Core.Path.{_≡_};
-ghost use mathlib.Core.Bool.{_&&_, _||_};
+ghost use mathlib.Core.Bool.{_&&_};
 ghost use Prim.Native.Nat.{_≤_};
 ghost use lib.Dec.{leb, eqb};
-ghost use Rattle.gregorian.specs.Calendar.{lastYear};
+ghost use Rattle.gregorian.specs.Calendar.{lastDay};
+ghost use Rattle.gregorian.specs.Inner.{SameDay};
 ghost use Rattle.rule_days.specs.Days.{contains, isDay};
-ghost use Rattle.markets.specs.Us.{newYearsDay, mlkDay, presidentsDay, memorialDay, independenceDay, laborDay, thanksgivingDay, juneteenth, christmasDay, getUsHolidays};
+ghost use Rattle.markets.specs.Us.{mlkDay, presidentsDay, memorialDay, independenceDay, laborDay, thanksgivingDay, juneteenth, getUsHolidays};
 use gregorian::MONDAY;
 use gregorian::SATURDAY;
 use gregorian::SUNDAY;
 use gregorian::THURSDAY;
+use gregorian::days::CalendarDay;
 use rule_days::fixed_day;
 use rule_days::is_between;
 use rule_days::is_good_friday;
@@ -18,77 +21,84 @@ use utils::OptionalDay;
 use utils::last_weekday_of_month;
 use utils::nth_weekday_of_month;
 
-// Whether day n is a holiday of the year.
-pub fn is_us_holiday(year: u32, n: u32) -> bool
-    requires { ⌜ (1 ≤ year) × (year ≤ lastYear) ⌝ }
-    ensures { λ r. ⌜ r ≡ contains (getUsHolidays year) n ⌝ }
+// Whether a day is a holiday of its year. On Monday if on a weekend: 1 January and 25 December.
+pub fn is_us_holiday(day: CalendarDay) -> bool
+    requires { ⌜ SameDay day × (day .number ≤ lastDay) ⌝ }
+    ensures { λ r. ⌜ r ≡ contains (getUsHolidays (day .date .year)) (day .number) ⌝ }
 {
-    is_new_years_day(year, n)
-        | is_independence_day(year, n)
-        | is_christmas_day(year, n)
-        | is_juneteenth(year, n)
-        | is_monday_holiday(year, n)
-        | is_thanksgiving_day(year, n)
-        | is_good_friday(year, n)
+    let month = day.date.month;
+    match month {
+        1 => is_observed(day, 1, 1) | is_mlk_day(day),
+        2 => is_presidents_day(day),
+        3 => is_good_friday(day),
+        4 => is_good_friday(day),
+        5 => is_memorial_day(day),
+        6 => is_juneteenth(day),
+        7 => is_independence_day(day),
+        9 => is_labor_day(day),
+        11 => is_thanksgiving_day(day),
+        12 => is_observed(day, 12, 25),
+        _ => false,
+    }
 }
 
-// Those that are always on a Monday; on another day none of them is computed.
-fn is_monday_holiday(year: u32, n: u32) -> bool
-    ensures { λ r. ⌜ r ≡ (isDay (mlkDay year) n || isDay (presidentsDay year) n || isDay (memorialDay year) n || isDay (laborDay year) n) ⌝ }
+// Martin Luther King Jr. Day: the 3rd Monday of January. On another weekday none of these is computed.
+fn is_mlk_day(day: CalendarDay) -> bool
+    ensures { λ r. ⌜ r ≡ isDay (mlkDay (day .date .year)) (day .number) ⌝ }
 {
-    if gregorian::weekday(n) != MONDAY {
+    if gregorian::weekday(day.number) != MONDAY {
         return false;
     }
-    is_mlk_day(year, n)
-        | is_presidents_day(year, n)
-        | is_memorial_day(year, n)
-        | is_labor_day(year, n)
-}
-
-// 1 January, on Monday if on a weekend.
-fn is_new_years_day(year: u32, n: u32) -> bool
-    requires { ⌜ (1 ≤ year) × (year ≤ lastYear) ⌝ }
-    ensures { λ r. ⌜ r ≡ eqb n (newYearsDay year) ⌝ }
-{
-    is_observed(year, 1, 1, n)
-}
-
-// Martin Luther King Jr. Day: the 3rd Monday of January.
-fn is_mlk_day(year: u32, n: u32) -> bool
-    ensures { λ r. ⌜ r ≡ isDay (mlkDay year) n ⌝ }
-{
-    let OptionalDay::Day(mlk_day) = nth_weekday_of_month(year, 1, MONDAY, 3) else {
+    let OptionalDay::Day(mlk_day) = nth_weekday_of_month(day.date.year, 1, MONDAY, 3) else {
         return false;
     };
-    n == mlk_day
+    day.number == mlk_day
 }
 
 // The 3rd Monday of February.
-fn is_presidents_day(year: u32, n: u32) -> bool
-    ensures { λ r. ⌜ r ≡ isDay (presidentsDay year) n ⌝ }
+fn is_presidents_day(day: CalendarDay) -> bool
+    ensures { λ r. ⌜ r ≡ isDay (presidentsDay (day .date .year)) (day .number) ⌝ }
 {
-    let OptionalDay::Day(presidents_day) = nth_weekday_of_month(year, 2, MONDAY, 3) else {
+    if gregorian::weekday(day.number) != MONDAY {
+        return false;
+    }
+    let OptionalDay::Day(presidents_day) = nth_weekday_of_month(day.date.year, 2, MONDAY, 3) else {
         return false;
     };
-    n == presidents_day
+    day.number == presidents_day
 }
 
 // The last Monday of May.
-fn is_memorial_day(year: u32, n: u32) -> bool
-    ensures { λ r. ⌜ r ≡ isDay (memorialDay year) n ⌝ }
+fn is_memorial_day(day: CalendarDay) -> bool
+    ensures { λ r. ⌜ r ≡ isDay (memorialDay (day .date .year)) (day .number) ⌝ }
 {
-    let OptionalDay::Day(memorial_day) = last_weekday_of_month(year, 5, MONDAY) else {
+    if gregorian::weekday(day.number) != MONDAY {
+        return false;
+    }
+    let OptionalDay::Day(memorial_day) = last_weekday_of_month(day.date.year, 5, MONDAY) else {
         return false;
     };
-    n == memorial_day
+    day.number == memorial_day
+}
+
+// 19 June, on Monday if on a weekend, from 2021 on.
+fn is_juneteenth(day: CalendarDay) -> bool
+    requires { ⌜ SameDay day × (day .number ≤ lastDay) × (day .date .month ≡ 6) ⌝ }
+    ensures { λ r. ⌜ r ≡ (leb 2021 (day .date .year) && eqb (day .number) (juneteenth (day .date .year))) ⌝ }
+{
+    let year = day.date.year;
+    if year < 2021 {
+        return false;
+    }
+    is_observed(day, 6, 19)
 }
 
 // 4 July, on Friday if on a Saturday and on Monday if on a Sunday.
-fn independence_day(year: u32) -> u32
-    requires { ⌜ (1 ≤ year) × (year ≤ lastYear) ⌝ }
-    ensures { λ r. ⌜ r ≡ independenceDay year ⌝ }
+fn independence_day(day: CalendarDay) -> u32
+    requires { ⌜ SameDay day × (day .number ≤ lastDay) × (day .date .month ≡ 7) ⌝ }
+    ensures { λ r. ⌜ r ≡ independenceDay (day .date .year) ⌝ }
 {
-    let july_4 = fixed_day(year, 7, 4);
+    let july_4 = fixed_day(day, 7, 4);
     match gregorian::weekday(july_4) {
         SATURDAY => july_4 - 1,
         SUNDAY => july_4 + 1,
@@ -97,25 +107,29 @@ fn independence_day(year: u32) -> u32
 }
 
 // Only 4 July and the days beside it are compared.
-fn is_independence_day(year: u32, n: u32) -> bool
-    requires { ⌜ (1 ≤ year) × (year ≤ lastYear) ⌝ }
-    ensures { λ r. ⌜ r ≡ eqb n (independenceDay year) ⌝ }
+fn is_independence_day(day: CalendarDay) -> bool
+    requires { ⌜ SameDay day × (day .number ≤ lastDay) × (day .date .month ≡ 7) ⌝ }
+    ensures { λ r. ⌜ r ≡ eqb (day .number) (independenceDay (day .date .year)) ⌝ }
 {
-    let july_4 = fixed_day(year, 7, 4);
+    let n = day.number;
+    let july_4 = fixed_day(day, 7, 4);
     if !is_between(july_4 - 1, july_4 + 1, n) {
         return false;
     }
-    n == independence_day(year)
+    n == independence_day(day)
 }
 
 // The 1st Monday of September.
-fn is_labor_day(year: u32, n: u32) -> bool
-    ensures { λ r. ⌜ r ≡ isDay (laborDay year) n ⌝ }
+fn is_labor_day(day: CalendarDay) -> bool
+    ensures { λ r. ⌜ r ≡ isDay (laborDay (day .date .year)) (day .number) ⌝ }
 {
-    let OptionalDay::Day(labor_day) = nth_weekday_of_month(year, 9, MONDAY, 1) else {
+    if gregorian::weekday(day.number) != MONDAY {
+        return false;
+    }
+    let OptionalDay::Day(labor_day) = nth_weekday_of_month(day.date.year, 9, MONDAY, 1) else {
         return false;
     };
-    n == labor_day
+    day.number == labor_day
 }
 
 // The 4th Thursday of November.
@@ -126,33 +140,14 @@ pub fn thanksgiving_day(year: u32) -> OptionalDay
 }
 
 // On a day but Thursday it is not computed.
-fn is_thanksgiving_day(year: u32, n: u32) -> bool
-    ensures { λ r. ⌜ r ≡ isDay (thanksgivingDay year) n ⌝ }
+fn is_thanksgiving_day(day: CalendarDay) -> bool
+    ensures { λ r. ⌜ r ≡ isDay (thanksgivingDay (day .date .year)) (day .number) ⌝ }
 {
-    if gregorian::weekday(n) != THURSDAY {
+    if gregorian::weekday(day.number) != THURSDAY {
         return false;
     }
-    let OptionalDay::Day(thanksgiving) = thanksgiving_day(year) else {
+    let OptionalDay::Day(thanksgiving) = thanksgiving_day(day.date.year) else {
         return false;
     };
-    n == thanksgiving
-}
-
-// 19 June, on Monday if on a weekend, from 2021 on.
-fn is_juneteenth(year: u32, n: u32) -> bool
-    requires { ⌜ (1 ≤ year) × (year ≤ lastYear) ⌝ }
-    ensures { λ r. ⌜ r ≡ (leb 2021 year && eqb n (juneteenth year)) ⌝ }
-{
-    if year < 2021 {
-        return false;
-    }
-    is_observed(year, 6, 19, n)
-}
-
-// 25 December, on Monday if on a weekend.
-fn is_christmas_day(year: u32, n: u32) -> bool
-    requires { ⌜ (1 ≤ year) × (year ≤ lastYear) ⌝ }
-    ensures { λ r. ⌜ r ≡ eqb n (christmasDay year) ⌝ }
-{
-    is_observed(year, 12, 25, n)
+    day.number == thanksgiving
 }

@@ -5,7 +5,7 @@ use lib.Dec.{eqb}
 use borrow.Author.Tests.{not-true}
 use borrow.Author.Needs.{needs}
 use Rattle.gregorian.specs.Calendar.{tuesday, thursday, sunday, weekdayOf}
-use Rattle.japan.specs.Inner.{isBridgeDay}
+use Rattle.japan.specs.JapanMonths.{isBridgeDay}
 use Rattle.japan.proofs.JapanLaws.{not-bridge-day}
 use Rattle.japan.proofs.holidays.is_bridge_day.Statement.{statement}
 use Rattle.japan.proofs.holidays.is_bridge_day.Tie as tie
@@ -21,7 +21,7 @@ unfolding isBridgeDay
 returns-2 c =
     let s = c .before .before .before in
     let t = s .before .before .before .before .before in
-    let n = t .before .before .args .n in
+    let n = t .before .before .args .day .number in
     let may2 = t .before .fixed-day .ensures .0 in
     let may6 = t .fixed-day2 .ensures .0 in
     let may3 = s .before .before .fixed-day3 .ensures .0 in

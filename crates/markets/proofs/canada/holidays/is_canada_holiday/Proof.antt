@@ -1,18 +1,66 @@
--- `markets::canada::holidays::is_canada_holiday` meets its contract: the tests, one for each insertion.
-use mathlib.Core.Path.{sym, _∙_}
+-- `markets::canada::holidays::is_canada_holiday` meets its contract: each month has its rules.
+use Prim.Native.Nat.{ℕ}
+use mathlib.Core.Path.{_≡_, refl, ap, sym, _∙_}
 use mathlib.Core.Bool.{_||_}
+use mathlib.Core.List.{[], _∷_}
+use lib.Dec.{eqb}
 use borrow.Author.Needs.{needs}
-use Rattle.markets.proofs.CanadaLaws.{canada-contains}
+use Rattle.gregorian.proofs.Tests.{every}
+use Rattle.rule_days.specs.Days.{contains}
+use Rattle.rule_days.specs.Months.{anyOf}
+use Rattle.rule_days.proofs.MonthLaws.{month-range, in-arm, no-holiday}
+use Rattle.markets.specs.Canada.{getCanadaHolidays}
+use Rattle.markets.specs.MonthFirst.{canadaRules}
+use Rattle.markets.proofs.CanadaLaws.{canada-by-month}
 use Rattle.markets.proofs.canada.holidays.is_canada_holiday.Statement.{statement}
 use Rattle.markets.proofs.canada.holidays.is_canada_holiday.Tie as tie
 
+-- the rules of month m, which is that of the day
+of-month : (c : tie.Start) (m : ℕ) → c .args .day .date .month ≡ m
+    → (let day = c .args .day in anyOf m (canadaRules (day .date .year) (day .number)) ≡ contains (getCanadaHolidays (day .date .year)) (day .number))
+of-month c m e =
+    let day = c .args .day in
+    in-arm (canadaRules (day .date .year) (day .number)) _ m _ (canada-by-month day (c .pre .0) (c .pre .1)) e
+
 returns : tie.Need-returns
-returns c =
-    let s = c .before .before .before in
-    (λ j. s .before .before .is-observed .ensures j || s .before .is-monday-holiday .ensures j || s .is-good-friday .ensures j || c .before .before .is-observed2 .ensures j || c .before .is-observed3 .ensures j || c .is-boxing-day .ensures j)
-    ∙ sym (canada-contains (s .before .before .before .args .year) (s .before .before .before .args .n))
+returns c = let arm = c .before in c .is-observed .ensures ∙ of-month (arm .before) 1 (arm .match .keys1)
+
+returns-2 : tie.Need-returns-2
+returns-2 c = let arm = c .before in c .is-family-day .ensures ∙ of-month (arm .before) 2 (arm .match .keys2)
+
+returns-3 : tie.Need-returns-3
+returns-3 c = let arm = c .before in c .is-good-friday .ensures ∙ of-month (arm .before) 3 (arm .match .keys3)
+
+returns-4 : tie.Need-returns-4
+returns-4 c = let arm = c .before in c .is-good-friday2 .ensures ∙ of-month (arm .before) 4 (arm .match .keys4)
+
+returns-5 : tie.Need-returns-5
+returns-5 c = let arm = c .before in ap (eqb (arm .before .args .day .number)) (c .victoria-day .ensures) ∙ of-month (arm .before) 5 (arm .match .keys5)
+
+returns-6 : tie.Need-returns-6
+returns-6 c = let arm = c .before in c .is-observed2 .ensures ∙ of-month (arm .before) 7 (arm .match .keys6)
+
+returns-7 : tie.Need-returns-7
+returns-7 c = let arm = c .before in c .is-labour-day .ensures ∙ of-month (arm .before) 9 (arm .match .keys7)
+
+returns-8 : tie.Need-returns-8
+returns-8 c = let arm = c .before in c .is-thanksgiving .ensures ∙ of-month (arm .before) 10 (arm .match .keys8)
+
+returns-9 : tie.Need-returns-9
+returns-9 c = let arm = c .before .before in (λ j. c .before .is-observed3 .ensures j || c .is-boxing-day .ensures j) ∙ of-month (arm .before) 12 (arm .match .keys9)
+
+-- the other months
+returns-10 : tie.Need-returns-10
+unfolding every
+returns-10 c =
+    let s = c .before in
+    let day = s .args .day in
+    no-holiday (12 ∷ 10 ∷ 9 ∷ 7 ∷ 5 ∷ 4 ∷ 3 ∷ 2 ∷ 1 ∷ []) (canadaRules (day .date .year) (day .number)) (day .date .month) refl
+    (month-range day (s .pre .0) (s .pre .1)) (c .match .rest)
+    ∙ of-month s (day .date .month) refl
 
 pub is-canada-holiday-spec : {M : Type 1} → statement M
 is-canada-holiday-spec =
     tie.close
-    (tie.spec (λ c κs. search needs) (search needs) (search needs) (λ c κs. search needs) (λ c κs. search needs) (search needs) returns)
+    (tie.spec (λ c κs. search needs) (search needs) (λ c κs. search needs) (λ c κs. search needs) (λ c κs. search needs) (λ c κs. search needs) (search needs) (search needs) (λ c κs. search needs) (λ c κs. search needs)
+    returns returns-2 returns-3 returns-4 returns-5 returns-6 returns-7 returns-8 returns-9 returns-10)

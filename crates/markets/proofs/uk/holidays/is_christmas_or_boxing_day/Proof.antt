@@ -12,13 +12,13 @@ returns c =
     one-of-two-away _ _ _ (sym (c .before .is-between .ensures) ∙ not-true _ (c .if1 .taken)) (c .before .before .fixed-day .ensures .0)
 
 returns-2 : tie.Need-returns-2
-returns-2 c = christmas-on friday _ (c .before .before .before .before .before .args .n) (c .before .before .before .before .fixed-day .result) _ (c .match .keys1) (c .before .weekday .ensures) (c .before .before .before .before .fixed-day .ensures .0)
+returns-2 c = christmas-on friday _ (c .before .before .before .before .before .args .day .number) (c .before .before .before .before .fixed-day .result) _ (c .match .keys1) (c .before .weekday .ensures) (c .before .before .before .before .fixed-day .ensures .0)
 
 returns-3 : tie.Need-returns-3
-returns-3 c = christmas-on saturday _ (c .before .before .before .before .before .args .n) (c .before .before .before .before .fixed-day .result) _ (c .match .keys2) (c .before .weekday .ensures) (c .before .before .before .before .fixed-day .ensures .0)
+returns-3 c = christmas-on saturday _ (c .before .before .before .before .before .args .day .number) (c .before .before .before .before .fixed-day .result) _ (c .match .keys2) (c .before .weekday .ensures) (c .before .before .before .before .fixed-day .ensures .0)
 
 returns-4 : tie.Need-returns-4
-returns-4 c = christmas-on sunday _ (c .before .before .before .before .before .args .n) (c .before .before .before .before .fixed-day .result) _ (c .match .keys3) (c .before .weekday .ensures) (c .before .before .before .before .fixed-day .ensures .0)
+returns-4 c = christmas-on sunday _ (c .before .before .before .before .before .args .day .number) (c .before .before .before .before .fixed-day .result) _ (c .match .keys3) (c .before .weekday .ensures) (c .before .before .before .before .fixed-day .ensures .0)
 
 returns-5 : tie.Need-returns-5
 returns-5 c =

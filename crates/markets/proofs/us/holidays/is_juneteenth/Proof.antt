@@ -6,12 +6,12 @@ use Rattle.markets.proofs.us.holidays.is_juneteenth.Statement.{statemen
 use Rattle.markets.proofs.us.holidays.is_juneteenth.Tie as tie
 
 returns : tie.Need-returns
-returns c = simp (lt-leb 2021 (c .before .args .year) (omega arith))
+returns c = simp (lt-leb 2021 (c .before .args .day .date .year) (omega arith))
 
 returns-2 : tie.Need-returns-2
 returns-2 c =
     let s = c .before .before in
-    simp (le-leb 2021 (s .args .year) (omega arith)) (c .is-observed .ensures)
+    simp (le-leb 2021 (s .args .day .date .year) (omega arith)) (c .is-observed .ensures)
 
 pub is-juneteenth-spec : {M : Type 1} → statement M
 is-juneteenth-spec =

@@ -1,19 +1,68 @@
--- `markets::us::holidays::is_us_holiday` meets its contract: the tests, one for each insertion.
-use mathlib.Core.Path.{sym, _∙_}
+-- `markets::us::holidays::is_us_holiday` meets its contract: each month has its rules.
+use Prim.Native.Nat.{ℕ}
+use mathlib.Core.Path.{_≡_, refl, sym, _∙_}
 use mathlib.Core.Bool.{_||_}
+use mathlib.Core.List.{[], _∷_}
 use borrow.Author.Needs.{needs}
-use Rattle.markets.proofs.UsLaws.{us-contains}
+use Rattle.gregorian.proofs.Tests.{every}
+use Rattle.rule_days.specs.Days.{contains}
+use Rattle.rule_days.specs.Months.{anyOf}
+use Rattle.rule_days.proofs.MonthLaws.{month-range, in-arm, no-holiday}
+use Rattle.markets.specs.Us.{getUsHolidays}
+use Rattle.markets.specs.MonthFirst.{usRules}
+use Rattle.markets.proofs.UsLaws.{us-by-month}
 use Rattle.markets.proofs.us.holidays.is_us_holiday.Statement.{statement}
 use Rattle.markets.proofs.us.holidays.is_us_holiday.Tie as tie
 
+-- the rules of month m, which is that of the day
+of-month : (c : tie.Start) (m : ℕ) → c .args .day .date .month ≡ m
+    → (let day = c .args .day in anyOf m (usRules (day .date .year) (day .number)) ≡ contains (getUsHolidays (day .date .year)) (day .number))
+of-month c m e =
+    let day = c .args .day in
+    in-arm (usRules (day .date .year) (day .number)) _ m _ (us-by-month day (c .pre .0) (c .pre .1)) e
+
 returns : tie.Need-returns
-returns c =
-    let s = c .before .before .before in
-    let t = s .before .before .before in
-    (λ j. t .is-new-years-day .ensures j || s .before .before .is-independence-day .ensures j || s .before .is-christmas-day .ensures j || s .is-juneteenth .ensures j || c .before .before .is-monday-holiday .ensures j || c .before .is-thanksgiving-day .ensures j || c .is-good-friday .ensures j)
-    ∙ sym (us-contains (t .before .args .year) (t .before .args .n))
+returns c = let arm = c .before .before in (λ j. c .before .is-observed .ensures j || c .is-mlk-day .ensures j) ∙ of-month (arm .before) 1 (arm .match .keys1)
+
+returns-2 : tie.Need-returns-2
+returns-2 c = let arm = c .before in c .is-presidents-day .ensures ∙ of-month (arm .before) 2 (arm .match .keys2)
+
+returns-3 : tie.Need-returns-3
+returns-3 c = let arm = c .before in c .is-good-friday .ensures ∙ of-month (arm .before) 3 (arm .match .keys3)
+
+returns-4 : tie.Need-returns-4
+returns-4 c = let arm = c .before in c .is-good-friday2 .ensures ∙ of-month (arm .before) 4 (arm .match .keys4)
+
+returns-5 : tie.Need-returns-5
+returns-5 c = let arm = c .before in c .is-memorial-day .ensures ∙ of-month (arm .before) 5 (arm .match .keys5)
+
+returns-6 : tie.Need-returns-6
+returns-6 c = let arm = c .before in c .is-juneteenth .ensures ∙ of-month (arm .before) 6 (arm .match .keys6)
+
+returns-7 : tie.Need-returns-7
+returns-7 c = let arm = c .before in c .is-independence-day .ensures ∙ of-month (arm .before) 7 (arm .match .keys7)
+
+returns-8 : tie.Need-returns-8
+returns-8 c = let arm = c .before in c .is-labor-day .ensures ∙ of-month (arm .before) 9 (arm .match .keys8)
+
+returns-9 : tie.Need-returns-9
+returns-9 c = let arm = c .before in c .is-thanksgiving-day .ensures ∙ of-month (arm .before) 11 (arm .match .keys9)
+
+returns-10 : tie.Need-returns-10
+returns-10 c = let arm = c .before in c .is-observed2 .ensures ∙ of-month (arm .before) 12 (arm .match .keys10)
+
+-- the other months
+returns-11 : tie.Need-returns-11
+unfolding every
+returns-11 c =
+    let s = c .before in
+    let day = s .args .day in
+    no-holiday (12 ∷ 11 ∷ 9 ∷ 7 ∷ 6 ∷ 5 ∷ 4 ∷ 3 ∷ 2 ∷ 1 ∷ []) (usRules (day .date .year) (day .number)) (day .date .month) refl
+    (month-range day (s .pre .0) (s .pre .1)) (c .match .rest)
+    ∙ of-month s (day .date .month) refl
 
 pub is-us-holiday-spec : {M : Type 1} → statement M
 is-us-holiday-spec =
     tie.close
-    (tie.spec (search needs) (search needs) (search needs) (search needs) (search needs) (search needs) (search needs) returns)
+    (tie.spec (λ c κs. search needs) (search needs) (search needs) (λ c κs. search needs) (λ c κs. search needs) (search needs) (λ c κs. search needs) (λ c κs. search needs) (search needs) (search needs) (λ c κs. search needs)
+    returns returns-2 returns-3 returns-4 returns-5 returns-6 returns-7 returns-8 returns-9 returns-10 returns-11)
