@@ -3,6 +3,7 @@
 ghost use mathlib.Core.Path.{_≡_};
 ghost use Rattle.utils.specs.Inner.{InYears};
 ghost use Rattle.all_years.specs.AllYears.{knownDay, dayAnswer};
+use gregorian::days::CalendarDay;
 use utils::OptionalDay;
 
 // Where there is no such market or no such date, every field is false.
@@ -34,11 +35,12 @@ pub extern "C" fn all_years_day(market: u32, year: u32, month: u32, day: u32) ->
 {
     match known_day(market, year, month, day) {
         OptionalDay::Day(n) => {
-            let known_year = gregorian::year_of(n);
+            let date = gregorian::date_of(n);
+            let known_day = CalendarDay { number: n, date };
             DayAnswer {
                 known: true,
-                holiday: markets::is_holiday(market, known_year, n),
-                trades: markets::is_trading_day(market, known_year, n),
+                holiday: markets::is_holiday(market, known_day),
+                trades: markets::is_trading_day(market, known_day),
             }
         }
         OptionalDay::None => DayAnswer {

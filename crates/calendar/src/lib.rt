@@ -8,6 +8,7 @@ use checks::is_time;
 use checks::supported_day;
 use error::BoolResult;
 use gregorian::Date;
+use gregorian::days::CalendarDay;
 use schedule::HoursResult;
 
 // [trading-day]
@@ -15,7 +16,10 @@ pub fn is_trading_day(market: u32, year: u32, month: u32, day: u32) -> BoolResul
     ensures { λ r. ⌜ r ≡ isTradingDayResult market year month day ⌝ }
 {
     match supported_day(market, year, month, day, true) {
-        DayResult::Ok(n) => BoolResult::Ok(markets::is_trading_day(market, year, n)),
+        DayResult::Ok(n) => {
+            let date = Date { year, month, day };
+            BoolResult::Ok(markets::is_trading_day(market, CalendarDay { number: n, date }))
+        }
         DayResult::Err(e) => BoolResult::Err(e),
     }
 }
@@ -25,7 +29,10 @@ pub fn is_holiday(market: u32, year: u32, month: u32, day: u32) -> BoolResult
     ensures { λ r. ⌜ r ≡ isHolidayResult market year month day ⌝ }
 {
     match supported_day(market, year, month, day, true) {
-        DayResult::Ok(n) => BoolResult::Ok(markets::is_holiday(market, year, n)),
+        DayResult::Ok(n) => {
+            let date = Date { year, month, day };
+            BoolResult::Ok(markets::is_holiday(market, CalendarDay { number: n, date }))
+        }
         DayResult::Err(e) => BoolResult::Err(e),
     }
 }
@@ -48,7 +55,8 @@ pub fn is_open(market: u32, year: u32, month: u32, day: u32, time: u32) -> BoolR
 {
     match supported_day(market, year, month, day, is_time(time)) {
         DayResult::Ok(n) => {
-            let trades = markets::is_trading_day(market, year, n);
+            let date = Date { year, month, day };
+            let trades = markets::is_trading_day(market, CalendarDay { number: n, date });
             BoolResult::Ok(trades & schedule::is_market_open_at(market, time))
         }
         DayResult::Err(e) => BoolResult::Err(e),

@@ -7,9 +7,11 @@ use lib.Dec.{ltb, leb, lit≤}
 use native.Mathlib.Omega.{arith}
 use borrow.Author.Tests.{lt-ltb, le-ltb, ltb-false, leb-true, le-leb, not-false}
 use Rattle.gregorian.specs.declared.Date.{Date}
-use Rattle.gregorian.specs.Calendar.{lastDay, isDate, date, dayNumber, isDateOf, number, dateOf}
+use Rattle.gregorian.specs.Calendar.{lastDay, isDate, date, dayNumber, isDateOf, number}
+use Rattle.gregorian.specs.Inner.{SameDay}
 use Rattle.gregorian.proofs.Tests.{and-left, and-right}
-use Rattle.gregorian.proofs.Laws.{number-range, year-of-number, date-by, month-low}
+use Rattle.gregorian.proofs.Laws.{number-range, date-by, month-low}
+use Rattle.gregorian.proofs.DaySteps.{same-day}
 use Rattle.markets.specs.Markets.{isMarket}
 use Rattle.markets.specs.Years.{minYear, maxYear, isSupported}
 use Rattle.markets.proofs.YearLaws.{supported-years}
@@ -41,7 +43,7 @@ pub record CheckedDay (market year month day n : ℕ) : Type 0 where
   pub known : isMarket market ≡ true
   pub is-date : isDate year month day ≡ true
   pub number-is : n ≡ dayNumber year month day
-  pub in-years : (1 ≤ n) × (n ≤ lastDay) × (year ≡ dateOf n .year)
+  pub same : SameDay (record { number = n; date = date year month day }) × (n ≤ lastDay)
 
 -- and of a supported year, with a time in range
 pub record SupportedDay (market year month day : ℕ) (timeInRange : Bool) (n : ℕ) : Type 0 where
@@ -69,7 +71,7 @@ module _ (market year month day : ℕ) where
         known = not-false _ (past₈ .0);
         is-date = d;
         number-is = e;
-        in-years = (omega (arith, e, r), omega (arith, e, r), year-of-number year month day d ∙ ap (λ (i : ℕ). dateOf i .year) (sym e));
+        same = (same-day year month day n d e, omega (arith, e, r));
       }
 
   -- what follows the same checks for a supported day
@@ -144,7 +146,8 @@ pub record CheckedRange (start end : Date) (a b : ℕ) : Type 0 where
   pub end-is : b ≡ number end
   pub start-year : minYear ≤ start .year
   pub end-year : end .year ≤ maxYear
-  pub in-years : (1 ≤ a) × (a ≤ lastDay) × (1 ≤ b) × (b ≤ lastDay)
+  pub same : SameDay (record { number = a; date = start })
+  pub end-high : b ≤ lastDay
 
 module _ (start end : Date) where
   pub range-passes : isDateOf start ≡ true → isDateOf end ≡ true → minYear ≤ start .year → end .year ≤ maxYear → checkedRange start end ≡ RangeResult.Ok (number start) (number end)
@@ -170,8 +173,6 @@ module _ (start end : Date) where
       let years = neither (ltb (start .year) minYear) _ (past₁ .0) in
       let i : a ≡ number start = cc in
       let k : b ≡ number end = cc in
-      let x = number-range (start .year) (start .month) (start .day) s in
-      let y = number-range (end .year) (end .month) (end .day) e in
       record {
         start-date = s;
         end-date = e;
@@ -179,7 +180,8 @@ module _ (start end : Date) where
         end-is = k;
         start-year = ltb-false (start .year) minYear (years .0);
         end-year = ltb-false maxYear (end .year) (years .1);
-        in-years = (omega (arith, i, x), omega (arith, i, x), omega (arith, k, y), omega (arith, k, y));
+        same = same-day (start .year) (start .month) (start .day) a s i;
+        end-high = omega (arith, k, number-range (end .year) (end .month) (end .day) e);
       }
 
 -- ---- a buffer

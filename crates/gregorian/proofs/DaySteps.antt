@@ -10,7 +10,7 @@ use Rattle.gregorian.specs.declared.Date.{Date}
 use Rattle.gregorian.specs.declared.days.CalendarDay.{CalendarDay}
 use Rattle.gregorian.specs.Calendar.{total, monthLength, dayNumber, lastDay, isDate, isDateOf, dayAfter, dateOf, date, number, dayBefore}
 use Rattle.gregorian.specs.Inner.{Exists, SameDay}
-use Rattle.gregorian.proofs.Laws.{DateExists, is-date, month-low, to-month, to-year, by-number, number-of-date, date-of-number, date-of-is, number-range}
+use Rattle.gregorian.proofs.Laws.{DateExists, is-date, month-low, to-month, to-year, by-number, number-of-date, date-of-is, number-range}
 
 -- ---- the day before
 
@@ -58,10 +58,10 @@ year-2 t h d m n = elim (decLe 2 (t .year)) [
 
 -- ---- the number and the date of one day
 
--- those of a date
-pub same-day : (y m d : ℕ) → isDate y m d ≡ true → SameDay (record { number = dayNumber y m d; date = date y m d })
-same-day y m d h =
-    record { low = number-range y m d h .0; same = sym (date-of-number (date y m d) (is-date y m d h .exists)) }
+-- a date and its number
+pub same-day : (y m d n : ℕ) → isDate y m d ≡ true → n ≡ dayNumber y m d → SameDay (record { number = n; date = date y m d })
+same-day y m d n h e =
+    record { low = omega (arith, e, number-range y m d h); same = by-number y m d n (is-date y m d h .exists) (sym e) }
 
 module _ (day : CalendarDay) (s : SameDay day) where
   pub number-is : number (day .date) ≡ day .number

@@ -3,14 +3,25 @@ ghost use mathlib.Core.Path.{_≡_};
 ghost use mathlib.Core.Bool.{true};
 ghost use Prim.Native.Nat.{_+_, _-_, _≤_};
 ghost use lib.Dec.{ltb};
-ghost use Rattle.gregorian.specs.Calendar.{monthLength, lastDay, isDateOf, number, dayAfter, dayBefore};
+ghost use Rattle.gregorian.specs.Calendar.{monthLength, dayNumber, lastDay, isDate, isDateOf, number, dayAfter, dayBefore};
 ghost use Rattle.gregorian.specs.Inner.{SameDay};
 use crate::Date;
+use crate::day_number;
 use crate::days_in_month;
 
 pub struct CalendarDay {
     pub number: u32,
     pub date: Date,
+}
+
+pub fn calendar_day(year: u32, month: u32, day: u32) -> CalendarDay
+    requires { ⌜ isDate year month day ≡ true ⌝ }
+    ensures { λ r. ⌜ SameDay r × (r .number ≡ dayNumber year month day) ⌝ }
+{
+    CalendarDay {
+        number: day_number(year, month, day),
+        date: Date { year, month, day },
+    }
 }
 
 // Whether a later day of the month follows. Every month has 28 days, and its length is asked for only past them.

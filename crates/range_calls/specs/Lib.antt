@@ -1,1 +1,2 @@
 pub mod RangeCalls
+pub mod Inner

@@ -14,6 +14,7 @@ use checks::checked_room;
 use error::CalendarError;
 use error::CountResult;
 use gregorian::Date;
+use gregorian::days::CalendarDay;
 use trading_days::LONGEST_MONTH;
 
 // The list of a month that is past its check: how many days were written, or error 9.
@@ -71,7 +72,11 @@ pub fn count_trading_days(
     };
     match checked_range(first, last) {
         RangeResult::Ok { start, end } => {
-            CountResult::Ok(trading_days::count(market, start_year, start, end))
+            let first_day = CalendarDay {
+                number: start,
+                date: first,
+            };
+            CountResult::Ok(trading_days::count(market, first_day, end))
         }
         RangeResult::Err(e) => CountResult::Err(e),
     }

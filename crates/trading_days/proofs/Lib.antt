@@ -1,2 +1,1 @@
 pub mod MonthDayLaws
-pub mod YearParts

@@ -8,8 +8,11 @@ use lib.ListN.{length, take, set, List·getD-eq-default}
 use lib.Seq.{length-take-le, take-suc-set, append-snoc}
 use native.Mathlib.Decide.{decLe}
 use native.Mathlib.Omega.{arith}
-use Rattle.gregorian.specs.Calendar.{lastDay, leapDay, monthLengths, monthLength, isDate, dayNumber, dateOf}
-use Rattle.gregorian.proofs.Laws.{days-on, is-date, date-by, number-range, year-of-number}
+use Rattle.gregorian.specs.declared.Date.{Date}
+use Rattle.gregorian.specs.declared.days.CalendarDay.{CalendarDay}
+use Rattle.gregorian.specs.Calendar.{lastDay, leapDay, monthLengths, monthLength, isDate, dayNumber}
+use Rattle.gregorian.specs.Inner.{SameDay}
+use Rattle.gregorian.proofs.Laws.{days-on, is-date, date-by, by-number, number-range}
 use Rattle.gregorian.proofs.Formulas.{month-high}
 use Rattle.markets.specs.Markets.{isTradingDay}
 use Rattle.ranges.specs.Ranges.{daysFrom, days, filter, Every, tradingDays}
@@ -17,21 +20,26 @@ use Rattle.ranges.proofs.Lists.{filter-map, trading-length, trading-kept, tradi
 use Rattle.ranges.proofs.Items.{every-trading-day}
 use Rattle.trading_days.specs.Month.{monthList}
 
--- Day d of a month by the day number of its first.
-pub day-of-month : (y m d n : ℕ) → n ≡ dayNumber y m 1 → 1 ≤ d → n + d - 1 ≡ dayNumber y m d
-day-of-month y m d n e h =
-    let k : 1 + (d - 1) ≡ d = omega arith in
-    let f = sym (ap (dayNumber y m) k) in
-    omega (arith, days-on y m 1 (d - 1), f)
+-- A day of a month, from the day number of its first: which day of the month it is.
+pub record DayInMonth (y m first : ℕ) (day : CalendarDay) : Type 0 where
+  pub number : day .number ≡ dayNumber y m (suc (day .number - first))
+  pub day-is : day .date .day ≡ suc (day .number - first)
+  pub in-years : day .number ≤ lastDay
 
--- It is a day of the years.
-pub month-in-years : (y m d : ℕ) → isDate y m 1 ≡ true → 1 ≤ d → d ≤ monthLength y m → (1 ≤ dayNumber y m d) × (dayNumber y m d ≤ lastDay) × (y ≡ dateOf (dayNumber y m d) .year)
-month-in-years y m d h l k =
+pub day-in-month : (y m first : ℕ) (day : CalendarDay) → isDate y m 1 ≡ true → SameDay day → first ≡ dayNumber y m 1 → first ≤ day .number → day .number < first + monthLength y m
+    → DayInMonth y m first day
+day-in-month y m first day h s f l u =
     let g = is-date y m 1 h in
-    let e = g .exists in
-    let is = date-by y m d (e .y-low, g .y-high) (e .m-low, e .m-high) (l, k) in
-    let r = number-range y m d is in
-    (r .0, r .1, year-of-number y m d is)
+    let x = g .exists in
+    let d = suc (day .number - first) in
+    let is = date-by y m d (x .y-low, g .y-high) (x .m-low, x .m-high) (omega arith, omega arith) in
+    let one : 1 + (day .number - first) ≡ d = omega arith in
+    let n : day .number ≡ dayNumber y m d = omega (arith, f, days-on y m 1 (day .number - first), ap (dayNumber y m) one) in
+    record {
+      number = n;
+      day-is = ap (λ (t : Date). t .day) (s .same ∙ sym (by-number y m d (day .number) (is-date y m d is .exists) (sym n)));
+      in-years = omega (arith, n, number-range y m d is);
+    }
 
 -- The first k days of the array, and then those from a to b that pass: day a is looked at; and none is left.
 module _ (p : ℕ → Bool) (l : List ℕ) (k a b : ℕ) where

@@ -2,6 +2,7 @@
 use mathlib.Core.Path.{sym, ap, _∙_, subst}
 use mathlib.Core.Bool.{true}
 use borrow.Author.Needs.{needs}
+use Rattle.gregorian.specs.Inner.{SameDay}
 use Rattle.utils.specs.declared.OptionalDay.the-variants.{Day}
 use Rattle.utils.specs.Inner.{InYears}
 use Rattle.all_years.specs.AllYears.{dayAnswer}
@@ -11,14 +12,9 @@ use Rattle.all_years.proofs.all_years_day.Tie as tie
 in-years : (c : tie.After-n) → InYears (Day (c .n .given .0 .0))
 in-years c = subst InYears (c .n .given .1) (c .before .before .known-day .ensures .1)
 
-year-of-requires : tie.Need-year-of-requires
-year-of-requires c κs = in-years (c .before)
-
-is-holiday-requires : tie.Need-is-holiday-requires
-is-holiday-requires c κs = let r = in-years (c .before .before) in (r .0, r .1, c .year-of .ensures .0)
-
-is-trading-day-requires : tie.Need-is-trading-day-requires
-is-trading-day-requires c κs = let r = in-years (c .before .before .before) in (r .0, r .1, c .before .year-of .ensures .0)
+-- and so is it with its date
+same : (c : tie.After-date-of) → SameDay (record { number = c .before .before .n .given .0 .0; date = c .date-of .result })
+same c = record { low = in-years (c .before .before) .0; same = c .date-of .ensures }
 
 returns : tie.Need-returns
 returns c =
@@ -32,4 +28,5 @@ returns-2 c = ap (dayAnswer (c .before .before .before .args .market)) (sym (c .
 pub all-years-day-spec : {M : Type 1} → statement M
 all-years-day-spec =
     tie.close
-    (tie.spec (search needs) (search needs) year-of-requires is-holiday-requires is-trading-day-requires (search needs) returns returns-2)
+    (tie.spec (search needs) (search needs) (λ c κs. in-years (c .before)) (λ c κs. (same c, in-years (c .before .before) .1)) (λ c κs. (same (c .before), in-years (c .before .before .before) .1)) (search needs) returns
+    returns-2)

@@ -8,7 +8,7 @@ use Rattle.calendar.proofs.is_holiday.Statement.{statement}
 use Rattle.calendar.proofs.is_holiday.Tie as tie
 
 is-holiday-requires : tie.Need-is-holiday-requires
-is-holiday-requires c κs = supported-checked _ _ _ _ true _ (sym (c .before .before .before .supported-day .ensures) ∙ c .before .n .given .1) .checked .in-years
+is-holiday-requires c κs = supported-checked _ _ _ _ true _ (sym (c .before .before .before .supported-day .ensures) ∙ c .before .n .given .1) .checked .same
 
 returns : tie.Need-returns
 returns c =

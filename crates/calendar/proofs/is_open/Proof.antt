@@ -19,7 +19,7 @@ day : (c : tie.After-n) → (let a = c .before .before .before .before .args in 
 day c = sym (checked (c .before .before)) ∙ c .n .given .1
 
 is-trading-day-requires : tie.Need-is-trading-day-requires
-is-trading-day-requires c κs = supported-checked _ _ _ _ _ _ (day (c .before)) .checked .in-years
+is-trading-day-requires c κs = supported-checked _ _ _ _ _ _ (day (c .before)) .checked .same
 
 returns : tie.Need-returns
 returns c =

@@ -8,7 +8,7 @@ use Rattle.calendar.proofs.is_trading_day.Statement.{statement}
 use Rattle.calendar.proofs.is_trading_day.Tie as tie
 
 is-trading-day-requires : tie.Need-is-trading-day-requires
-is-trading-day-requires c κs = supported-checked _ _ _ _ true _ (sym (c .before .before .before .supported-day .ensures) ∙ c .before .n .given .1) .checked .in-years
+is-trading-day-requires c κs = supported-checked _ _ _ _ true _ (sym (c .before .before .before .supported-day .ensures) ∙ c .before .n .given .1) .checked .same
 
 returns : tie.Need-returns
 returns c =

@@ -4,62 +4,76 @@ use mathlib.Core.Path.{_≡_, sym, ap, _∙_}
 use native.Mathlib.Omega.{arith}
 use borrow.Author.Needs.{needs}
 use Rattle.gregorian.specs.Calendar.{lastDay}
+use Rattle.gregorian.specs.Inner.{SameDay}
 use Rattle.markets.specs.Markets.{isTradingDay}
 use Rattle.markets.specs.Years.{lastDayOf}
 use Rattle.markets.proofs.YearLaws.{searched-days}
 use Rattle.ranges.specs.Ranges.{nextTradingDay}
 use Rattle.ranges.proofs.Neighbours.{next-none, next-found, next-passed}
+use Rattle.neighbours.specs.Inner.{neighbourOf}
+use Rattle.neighbours.proofs.NeighbourLaws.{found-is, asked}
 use Rattle.neighbours.proofs.next_trading_day.Statement.{statement}
 use Rattle.neighbours.proofs.next_trading_day.Tie as tie
 
 -- what is left to search from the day of the loop is all of the search
 abbrev Inv-loop : tie.InvT-loop
-Inv-loop market n last next₀ next =
-    (n ≤ next) × (next ≤ lastDay) × (last ≤ lastDay) × (nextTradingDay (isTradingDay market) (lastDayOf market) n ≡ nextTradingDay (isTradingDay market) last next)
+Inv-loop market last next₀ next =
+    SameDay next × (next .number ≤ lastDay) × (last ≤ lastDay)
+    × (nextTradingDay (isTradingDay market) (lastDayOf market) (next₀ .number) ≡ nextTradingDay (isTradingDay market) last (next .number))
 
 -- the days left
 abbrev μ-loop : tie.MeasureT-loop
-μ-loop market n last next₀ next = last - next
+μ-loop market last next₀ next = last - next .number
 
 loop-holds : tie.Need-loop-holds Inv-loop μ-loop
 loop-holds c =
     let a = c .before .args in
     let last = c .last-day-of .ensures in
-    (omega arith, omega arith, omega (arith, last, searched-days (a .market)), ap (λ (day : ℕ). nextTradingDay (isTradingDay (a .market)) day (a .n)) (sym last))
+    (c .before .pre .0, c .before .pre .1, omega (arith, last, searched-days (a .market)), ap (λ (day : ℕ). nextTradingDay (isTradingDay (a .market)) day (a .day .number)) (sym last))
 
-year-of-requires : tie.Need-year-of-requires Inv-loop μ-loop
-year-of-requires c κs = (omega arith, omega arith)
+day-after-requires : tie.Need-day-after-requires Inv-loop μ-loop
+day-after-requires c κs = let i = c .before .before .loop .inv in (i .0, i .1)
 
 is-trading-day-requires : tie.Need-is-trading-day-requires Inv-loop μ-loop
-is-trading-day-requires c κs = (omega arith, omega arith, c .year-of .ensures .0)
+is-trading-day-requires c κs =
+    let e = c .day-after .ensures in
+    (e .0, omega (arith, e .1, c .before .before .before .loop .inv .2))
 
 returns : tie.Need-returns Inv-loop μ-loop
 returns c =
-    let s = c .before .before .before .before in
-    sym
+    let s = c .before .before .before .before .before in
+    let trades = isTradingDay (s .before .before .args .market) in
+    let e = c .before .before .day-after .ensures in
+    found-is _ _ _ (e .0) (e .1)
     (s .loop .inv .3
-    ∙ next-found (isTradingDay (s .before .before .args .market)) (s .before .last-day-of .result) (s .loop .next) (omega arith)
-    (sym (c .before .is-trading-day .ensures) ∙ c .if1 .taken))
+    ∙ next-found trades (s .before .last-day-of .result) (s .loop .next .number) (omega arith) (asked trades _ _ _ _ (e .1) (c .before .is-trading-day .ensures) (c .if2 .taken)))
+
+loop-less : tie.Need-loop-less Inv-loop μ-loop
+loop-less c = omega (arith, c .before .before .day-after .ensures .1)
 
 loop-again : tie.Need-loop-again Inv-loop μ-loop
 loop-again c =
-    let s = c .before .before .before .before in (
-      omega arith,
-      omega arith,
-      omega arith,
+    let s = c .before .before .before .before .before in
+    let trades = isTradingDay (s .before .before .args .market) in
+    let last = s .before .last-day-of .result in
+    let e = c .before .before .day-after .ensures in (
+      e .0,
+      omega (arith, e .1, s .loop .inv .2),
+      s .loop .inv .2,
       s .loop .inv .3
-          ∙ next-passed (isTradingDay (s .before .before .args .market)) (s .before .last-day-of .result) (s .loop .next) (omega arith)
-          (sym (c .before .is-trading-day .ensures) ∙ c .if1 .left),
+          ∙ next-passed trades last (s .loop .next .number) (omega arith) (asked trades _ _ _ _ (e .1) (c .before .is-trading-day .ensures) (c .if2 .left))
+          ∙ ap (nextTradingDay trades last) (sym (e .1)),
     )
 
 returns-2 : tie.Need-returns-2 Inv-loop μ-loop
 returns-2 c =
-    let s = c .before in
-    sym
+    let s = c .before .before in
+    ap neighbourOf
+    (sym
     (s .loop .inv .3
-    ∙ next-none (isTradingDay (s .before .before .args .market)) (s .before .last-day-of .result) (s .loop .next) (omega arith))
+    ∙ next-none (isTradingDay (s .before .before .args .market)) (s .before .last-day-of .result) (s .loop .next .number) (omega arith)))
 
 pub next-trading-day-spec : {M : Type 1} → statement M
 next-trading-day-spec =
     tie.close
-    (tie.spec Inv-loop μ-loop (search needs) loop-holds (search needs) year-of-requires is-trading-day-requires returns (search needs) loop-again returns-2)
+    (tie.spec Inv-loop μ-loop (search needs) loop-holds day-after-requires is-trading-day-requires returns loop-less loop-again returns-2)

@@ -1,11 +1,8 @@
 -- `range_calls::next_trading_day` meets its contract: the day past the checks is that of a date, and an error stays.
-use mathlib.Core.Path.{_≡_, sym, _∙_, subst}
+use mathlib.Core.Path.{_≡_, sym, _∙_}
 use borrow.Author.Needs.{needs}
-use Rattle.utils.specs.Inner.{InYears}
-use Rattle.ranges.proofs.StepLaws.{next-in-years}
 use Rattle.checks.specs.declared.DayResult.{DayResult}
 use Rattle.checks.specs.Checks.{checkedDay}
-use Rattle.markets.proofs.YearLaws.{searched-days}
 use Rattle.checks.proofs.CheckLaws.{past-day-error, day-checked}
 use Rattle.range_calls.proofs.RangeLaws.{neighbour-is}
 use Rattle.range_calls.proofs.next_trading_day.Statement.{statement}
@@ -16,18 +13,12 @@ day : (c : tie.After-n) → (let a = c .before .before .before .args in checkedD
 day c = sym (c .before .before .checked-day .ensures) ∙ c .n .given .1
 
 next-trading-day-requires : tie.Need-next-trading-day-requires
-next-trading-day-requires c κs = let r = day-checked _ _ _ _ _ (day (c .before)) .in-years in (r .0, r .1)
-
-trading-day-result-requires : tie.Need-trading-day-result-requires
-trading-day-result-requires c κs =
-    let d = day-checked _ _ _ _ _ (day (c .before .before)) in
-    (d .is-date, d .number-is, subst InYears (sym (c .next-trading-day .ensures)) (next-in-years _ _ _ (searched-days _ .1)))
+next-trading-day-requires c κs = day-checked _ _ _ _ _ (day (c .before)) .same
 
 returns : tie.Need-returns
 returns c =
     let s = c .before .before .before in
-    neighbour-is _ _ _ _ _ (s .n .given .0 .0) _ _ (sym (day s))
-    (c .before .next-trading-day .ensures) (c .trading-day-result .ensures)
+    neighbour-is _ _ _ _ _ (s .n .given .0 .0) _ _ (sym (day s)) (c .before .next-trading-day .ensures) (c .trading-day-result .ensures)
 
 returns-2 : tie.Need-returns-2
 returns-2 c = past-day-error _ _ _ _ (sym (c .before .e .given .1) ∙ c .before .before .before .checked-day .ensures)
@@ -35,4 +26,4 @@ returns-2 c = past-day-error _ _ _ _ (sym (c .before .e .given .1) ∙ c .before
 pub next-trading-day-spec : {M : Type 1} → statement M
 next-trading-day-spec =
     tie.close
-    (tie.spec (search needs) (search needs) next-trading-day-requires trading-day-result-requires (search needs) returns returns-2)
+    (tie.spec (search needs) (search needs) next-trading-day-requires (search needs) (search needs) returns returns-2)

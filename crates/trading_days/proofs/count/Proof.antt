@@ -1,107 +1,64 @@
--- `trading_days::count` meets its contract: each turn of the loop is one year of the count.
+-- `trading_days::count` meets its contract: each turn of the loop is one day of the count.
 use Prim.Native.Nat.{ℕ, suc, _+_, _-_, _≤_, _<_}
-use mathlib.Core.Path.{_≡_, refl, sym, ap, _∙_}
+use mathlib.Core.Path.{_≡_, refl, sym, ap₂, _∙_}
 use mathlib.Core.Logic.{⊎-elim}
 use native.Mathlib.Omega.{arith}
-use Rattle.gregorian.specs.Calendar.{lastDay, dayNumber, dateOf}
+use borrow.Author.Needs.{needs}
+use Rattle.gregorian.specs.Calendar.{lastDay}
+use Rattle.gregorian.specs.Inner.{SameDay}
 use Rattle.markets.specs.Markets.{isTradingDay}
 use Rattle.ranges.specs.Ranges.{countFrom, countTradingDays}
-use Rattle.ranges.proofs.Counts.{count-done}
-use Rattle.trading_days.proofs.YearParts.{count-part, part-at-most, year-end-is, year-after, year-low, year-up, by-year-end, to-year-end}
+use Rattle.ranges.proofs.Counts.{count-one, count-passed, count-done}
 use Rattle.trading_days.proofs.count.Statement.{statement}
 use Rattle.trading_days.proofs.count.Tie as tie
 
--- the count so far, with that of the days that are left, is all of the count; the year is that of the next day
+-- the count so far, with that of the days that are left, is all of the count
 abbrev Inv-loop : tie.InvT-loop
-Inv-loop market first-year first last count₀ year₀ day₀ count year day =
-    (count < day) × (day ≤ suc lastDay) × (day ≤ last → year ≡ dateOf day .year)
-    × (countTradingDays (isTradingDay market) first last ≡ countFrom (isTradingDay market) count day (suc last - day))
+Inv-loop market last count₀ day₀ count day =
+    SameDay day × (last ≤ lastDay) × (count < day .number)
+    × (countTradingDays (isTradingDay market) (day₀ .number) last ≡ countFrom (isTradingDay market) count (day .number) (suc last - day .number))
 
 -- the days left
 abbrev μ-loop : tie.MeasureT-loop
-μ-loop market first-year first last count₀ year₀ day₀ count year day = suc last - day
+μ-loop market last count₀ day₀ count day = suc last - day .number
 
 loop-holds : tie.Need-loop-holds Inv-loop μ-loop
-loop-holds c = (omega arith, omega arith, λ l. c .pre .3, refl)
+loop-holds c = (c .pre .0, c .pre .1, omega (arith, c .pre .0 .low), refl)
 
--- the day that is next, and its year
-module _ (c : tie.In-loop Inv-loop μ-loop) where
-  abbrev day : ℕ
-  day = c .before .loop .day
+is-trading-day-requires : tie.Need-is-trading-day-requires Inv-loop μ-loop
+is-trading-day-requires c κs = let i = c .before .before .loop .inv in (i .0, omega (arith, i .1))
 
-  abbrev year : ℕ
-  year = c .before .loop .year
+add-count : tie.Need-add-count Inv-loop μ-loop
+add-count c = let i = c .before .before .before .before .loop .inv in record { fits = omega (arith, i .1, i .2) }
 
-  from : 1 ≤ day
-  from = let i = c .before .loop .inv in omega (arith, i .0)
-
-  to : day ≤ lastDay
-  to = omega arith
-
-  of-year : year ≡ dateOf day .year
-  of-year = c .before .loop .inv .2 (omega arith)
-
--- where the year's part ends: at its last day, or at the last of all
-record PartEnd (day last year-end end : ℕ) : Type 0 where
-  after : day ≤ end
-  in-range : end ≤ last
-  in-year : end ≤ year-end
-  more : end < last → end ≡ year-end
-
-part-end : (c : tie.Joined1 Inv-loop μ-loop) → (let s = c .before .before in PartEnd (day s) (s .before .before .args .last) (dayNumber (year s) 12 31) (c .if1 .end))
-part-end c =
-    let s = c .before .before in
-    let e = c .before .day-number .ensures in
-    let there = by-year-end (year s) (day s) (from s) (to s) (of-year s) in
-    ⊎-elim
-    (λ w. let b = w .0 .taken in record { after = omega (arith, w .1); in-range = omega (arith, w .1); in-year = omega (arith, e, w .1, b); more = λ l. absurd (omega (arith, w .1, l)) })
-    (λ w. let b = w .0 .left in record { after = omega (arith, e, w .1, there); in-range = omega (arith, w .1, b); in-year = omega (arith, e, w .1); more = λ l. w .1 ∙ e })
-    (c .if1 .came)
-
-day-number-requires : tie.Need-day-number-requires Inv-loop μ-loop
-day-number-requires c κs = year-end-is (year c) (year-low _ _ (from c) (to c) (of-year c)) (year-up _ _ (from c) (to c) (of-year c))
-
-count-in-year-requires : tie.Need-count-in-year-requires Inv-loop μ-loop
-count-in-year-requires c κs =
-    let s = c .before .before in
-    let end = part-end c in
-    (s .before .loop .inv .0, omega (arith, end .in-range), λ n l h. to-year-end (year s) (day s) (from s) (to s) (of-year s) n l (omega (arith, h, end .in-year)))
-
-add-day : tie.Need-add-day Inv-loop μ-loop
-add-day c = let e = part-end (c .before .before) in omega (arith, e .in-range)
-
-add-year : tie.Need-add-year Inv-loop μ-loop
-add-year c = let s = c .before .before .before .before in omega (arith, year-up (year s) (day s) (from s) (to s) (of-year s))
+day-after-requires : tie.Need-day-after-requires Inv-loop μ-loop
+day-after-requires c κs = let i = c .before .before .before .before .loop .inv in (i .0, omega (arith, i .1))
 
 loop-less : tie.Need-loop-less Inv-loop μ-loop
-loop-less c = let e = part-end (c .before .before) in omega (arith, e .after, e .in-range)
+loop-less c = omega (arith, c .day-after .ensures .1)
 
 loop-again : tie.Need-loop-again Inv-loop μ-loop
 loop-again c =
-    let j = c .before .before in
-    let s = j .before .before in
-    let a = s .before .before .args in
-    let end = j .if1 .end in
-    let e = part-end j in
-    let trades = isTradingDay (a .market) in
-    let count = s .before .loop .count in
-    let reached : day s ≤ suc end = omega (arith, e .after) in
-    let counted = c .before .count-in-year .ensures in (
-      omega (arith, counted, part-at-most trades count (day s) end (a .last) reached (e .in-range) (s .before .loop .inv .0)),
-      omega (arith, e .in-range),
-      λ l. year-after (year s) (year-low _ _ (from s) (to s) (of-year s)) (year-up _ _ (from s) (to s) (of-year s)) ∙ ap (λ (n : ℕ). dateOf (n + 1) .year) (sym (e .more (omega (arith, l)))),
-      s .before .loop .inv .3
-          ∙ count-part trades count (day s) end (a .last) reached (e .in-range)
-          ∙ ap (λ (n : ℕ). countFrom trades n (end + 1) (suc (a .last) - (end + 1))) (sym counted),
-    )
+    let s = c .before .before .before .before .before in
+    let trades = isTradingDay (s .before .args .market) in
+    let last = s .before .args .last in
+    let day = s .loop .day .number in
+    let e = c .day-after .ensures in
+    let asked = sym (c .before .before .is-trading-day .ensures) in
+    let rest : ℕ → ℕ → ℕ = λ n i. countFrom trades n i (suc last - i) in
+    ⊎-elim
+    (λ w. (e .0, s .loop .inv .1, omega (arith, e .1, w .1, s .loop .inv .2), s .loop .inv .3 ∙ count-one trades (s .loop .count) day last (omega arith) (asked ∙ w .0 .taken) ∙ ap₂ rest (sym (w .1)) (sym (e .1))))
+    (λ w. (e .0, s .loop .inv .1, omega (arith, e .1, w .1, s .loop .inv .2), s .loop .inv .3 ∙ count-passed trades (s .loop .count) day last (omega arith) (asked ∙ w .0 .left) ∙ ap₂ rest (sym (w .1)) (sym (e .1))))
+    (c .before .if2 .came)
 
 returns : tie.Need-returns Inv-loop μ-loop
 returns c =
+    let s = c .before .before in
     sym
-    (c .before .loop .inv .3
-    ∙ count-done (isTradingDay (c .before .before .args .market)) (c .before .loop .count) (c .before .loop .day) (c .before .before .args .last) (omega arith))
+    (s .loop .inv .3
+    ∙ count-done (isTradingDay (s .before .args .market)) (s .loop .count) (s .loop .day .number) (s .before .args .last) (omega arith))
 
 pub count-spec : {M : Type 1} → statement M
 count-spec =
     tie.close
-    (tie.spec Inv-loop μ-loop loop-holds day-number-requires count-in-year-requires add-day add-year loop-less loop-again returns)
+    (tie.spec Inv-loop μ-loop loop-holds is-trading-day-requires add-count day-after-requires loop-less loop-again returns)

@@ -1,12 +1,9 @@
 -- `range_calls::counts::count_trading_days` meets its contract.
-use Prim.Native.Nat.{ℕ}
 use mathlib.Core.Path.{_≡_, ap, sym, _∙_}
 use mathlib.Core.Bool.{true}
-use native.Mathlib.Omega.{arith}
 use borrow.Author.Tests.{not-true, not-false}
 use borrow.Author.Needs.{needs}
-use Rattle.gregorian.specs.Calendar.{date, dateOf}
-use Rattle.gregorian.proofs.Laws.{year-of-number}
+use Rattle.gregorian.specs.Calendar.{date}
 use Rattle.markets.specs.Markets.{isMarket}
 use Rattle.error.specs.declared.CountResult.{CountResult}
 use Rattle.checks.specs.declared.RangeResult.{RangeResult}
@@ -27,10 +24,7 @@ returns : tie.Need-returns
 returns c = simp (sym (c .before .is-market .ensures) ∙ not-true _ (c .if1 .taken))
 
 count-requires : tie.Need-count-requires
-count-requires c κs =
-    let r = range-checked _ _ _ _ (sym (range (c .before))) in
-    let i = r .in-years in
-    (omega (arith, i), omega (arith, i), omega (arith, i), year-of-number _ _ _ (r .start-date) ∙ ap (λ (n : ℕ). dateOf n .year) (sym (r .start-is)))
+count-requires c κs = let r = range-checked _ _ _ _ (sym (range (c .before))) in (r .same, r .end-high)
 
 returns-2 : tie.Need-returns-2
 returns-2 c =
