@@ -42,11 +42,12 @@ pub const NO_DATE: Date = Date {
     day: 0,
 };
 
-// Without a branch, so that where it is asked for several times it is computed once.
+// Of the years that 4 divides, 100 divides those that 25 does, and 400 those that 25 and 16 do. Without a branch, so that where it is
+// asked for several times it is computed once.
 pub fn is_leap(year: u32) -> bool
     ensures { λ r. ⌜ r ≡ leap year ⌝ }
 {
-    (year % 4 == 0) & ((year % 100 != 0) | (year % 400 == 0))
+    (year % 4 == 0) & ((year % 25 != 0) | (year % 16 == 0))
 }
 
 // The months but February have 31 and 30 days by turns, and anew from August on. 0 where there is no such month.

@@ -6,10 +6,11 @@ pub mod years;
 
 ghost use mathlib.Core.Path.{_≡_};
 ghost use Prim.Native.Nat.{_≤_};
-ghost use Rattle.gregorian.specs.Calendar.{lastDay};
+ghost use Rattle.gregorian.specs.Calendar.{lastDay, date};
 ghost use Rattle.gregorian.specs.Inner.{SameDay};
 ghost use Rattle.markets.specs.Markets.{isMarket, isWeekend, isHoliday, isTradingDay};
 use canada::holidays::is_canada_holiday;
+use gregorian::Date;
 use gregorian::SATURDAY;
 use gregorian::SUNDAY;
 use gregorian::days::CalendarDay;
@@ -43,11 +44,17 @@ pub fn is_weekend(n: u32) -> bool
     (weekday == SATURDAY) | (weekday == SUNDAY)
 }
 
-// [is-holiday]: a code that is no market's has no holidays.
-pub fn is_holiday(market: u32, day: CalendarDay) -> bool
-    requires { ⌜ SameDay day × (day .number ≤ lastDay) ⌝ }
-    ensures { λ r. ⌜ r ≡ isHoliday market (day .number) ⌝ }
+// The parts of a day one by one, so that they stay in registers; a struct would go through memory.
+fn is_holiday_on(market: u32, number: u32, year: u32, month: u32, d: u32) -> bool
+    requires { ⌜ SameDay (record { number = number; date = date year month d }) × (number ≤ lastDay) ⌝ }
+    ensures { λ r. ⌜ r ≡ isHoliday market number ⌝ }
 {
+    let date = Date {
+        year,
+        month,
+        day: d,
+    };
+    let day = CalendarDay { number, date };
     match market {
         NYSE | NASDAQ => is_us_holiday(day),
         LSE => is_uk_holiday(day),
@@ -55,6 +62,20 @@ pub fn is_holiday(market: u32, day: CalendarDay) -> bool
         TSX => is_canada_holiday(day),
         _ => false,
     }
+}
+
+// [is-holiday]: a code that is no market's has no holidays.
+pub fn is_holiday(market: u32, day: CalendarDay) -> bool
+    requires { ⌜ SameDay day × (day .number ≤ lastDay) ⌝ }
+    ensures { λ r. ⌜ r ≡ isHoliday market (day .number) ⌝ }
+{
+    is_holiday_on(
+        market,
+        day.number,
+        day.date.year,
+        day.date.month,
+        day.date.day,
+    )
 }
 
 // [trading-day]
