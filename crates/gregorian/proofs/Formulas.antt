@@ -154,8 +154,28 @@ date-parts n y m a b h p q wy wm =
     let g : dayNumber y m (n - a - b) ≡ n = omega (arith, k, l) in
     unique (date y m (n - a - b)) (dateOf n) d (date-exists n (h .0)) (g ∙ sym (number-of-date n (h .0)))
 
-pub number-parts : (y m d a b : ℕ) → isDate y m d ≡ true → a ≡ total yearLength (y - 1) → b ≡ total (monthLength y) (m - 1) → (a + (b + d) ≡ dayNumber y m d) × (dayNumber y m d ≤ lastDay)
+-- what a date's year and month come to, in years that begin in March, and the days of its months before
+pub record InMarchYear (y m year month : ℕ) : Type 0 where
+  pub y-high : year ≤ y
+  pub m-high : month ≤ 11
+  pub days : total yearLength year + (153 * month + 2) / 5 ≡ total yearLength (y - 1) + total (monthLength y) (m - 1) + 306
+
+pub january : (y m : ℕ) → 1 ≤ m → m < 3 → InMarchYear y m (y - 1) (m + 9)
+unfolding total monthLength
+january y m l h =
+    let days = upto (λ (m : ℕ). 1 ≤ m → (153 * (m + 9) + 2) / 5 ≡ total (monthLength y) (m - 1) + 306) 3 (omega arith) m h l in
+    record { y-high = omega arith; m-high = omega arith; days = omega (arith, days) }
+
+pub march : (y m : ℕ) → 1 ≤ y → 3 ≤ m → m ≤ 12 → InMarchYear y m y (m - 3)
+unfolding total monthLength yearLength
+march y m l k h =
+    let days = upto (λ (m : ℕ). 3 ≤ m → (153 * (m - 3) + 2) / 5 + leapDay y + 59 ≡ total (monthLength y) (m - 1)) 13 (omega arith) m (omega arith) k in
+    record { y-high = omega arith; m-high = omega arith; days = omega (arith, days, total-next yearLength y l) }
+
+-- The parts make up the number, which fits.
+pub number-by-march : (y m d year month days : ℕ) → isDate y m d ≡ true → days ≡ total yearLength year → InMarchYear y m year month
+    → (days + (153 * month + 2) / 5 + d ≡ dayNumber y m d + 306) × (dayNumber y m d ≤ lastDay)
 unfolding dayNumber
-number-parts y m d a b h p q =
+number-by-march y m d year month days h e k =
     let g = is-date y m d h in
-    (omega arith, number-high y m d (g .exists) (g .y-high))
+    (omega (arith, e, k .days), number-high y m d (g .exists) (g .y-high))

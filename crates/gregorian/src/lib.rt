@@ -110,11 +110,15 @@ fn days_in_months(year: u32, k: u32) -> u32
     if is_leap(year) { days - 1 } else { days - 2 }
 }
 
+// By years that begin in March: February is then their last month, and its length does not matter. Five months from March on have
+// 153 days, and the ten from March to December 306.
 pub fn day_number(year: u32, month: u32, day: u32) -> u32
     requires { ⌜ isDate year month day ≡ true ⌝ }
     ensures { λ r. ⌜ r ≡ dayNumber year month day ⌝ }
 {
-    days_in_years(year - 1) + (days_in_months(year, month - 1) + day)
+    let march_year = if month < 3 { year - 1 } else { year };
+    let march_month = if month < 3 { month + 9 } else { month - 3 };
+    days_in_years(march_year) + (153 * march_month + 2) / 5 + day - 306
 }
 
 // By the mean length of a year, 146097 / 400 days, which gives the year's place or one too low.

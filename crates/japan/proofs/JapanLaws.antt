@@ -171,12 +171,12 @@ golden {ds} {test} {a} y s h =
     }
 
 -- A day but 2 to 6 May is no bridge day.
-pub not-bridge-day : (y n a b : ℕ) → a ≡ dayNumber y 5 2 → b ≡ dayNumber y 5 6 → isBetween a b n ≡ false → false ≡ isBridgeDay y n
+pub not-bridge-day : (y n : ℕ) → isBetween (dayNumber y 5 2) (dayNumber y 5 2 + 4) n ≡ false → false ≡ isBridgeDay y n
 unfolding isBridgeDay
-not-bridge-day y n a b p q e =
-    let week : a ≤ b = omega (arith, p, q, days-on y 5 2 4) in
-    let not-2 : eqb n (dayNumber y 5 2) ≡ false = sym (not-between a b a n (omega arith) week e ∙ ap (eqb n) p) in
-    let not-6 : eqb n (dayNumber y 5 6) ≡ false = sym (not-between a b b n week (omega arith) e ∙ ap (eqb n) q) in
+not-bridge-day y n e =
+    let first = dayNumber y 5 2 in
+    let not-2 : eqb n (dayNumber y 5 2) ≡ false = sym (not-between first (first + 4) first n (omega arith) (omega arith) e) in
+    let not-6 : eqb n (dayNumber y 5 6) ≡ false = sym (not-between first (first + 4) (dayNumber y 5 6) n (omega (arith, days-on y 5 2 4)) (omega (arith, days-on y 5 2 4)) e) in
     simp (not-2, not-6, and-false)
 
 -- Each date with a substitute is later than what was inserted before it.
@@ -228,7 +228,7 @@ module _ (day : CalendarDay) (s : SameDay day) (h : day .number ≤ lastDay) whe
       by None f e = refl
 
   bridge-in : Fits month (5 ∷ []) (isBridgeDay y n)
-  bridge-in = near day s h 5 2 4 (isBridgeDay y n) refl refl (not-bridge-day y n _ _ refl (sym (days-on y 5 2 4)))
+  bridge-in = near day s h 5 2 4 (isBridgeDay y n) refl refl (not-bridge-day y n)
 
   -- the insertions of the Rust, one after the other, in years 1 to 9999
   pub japan-by-month : contains (getJapanHolidays y) n ≡ anyOf month (japanRules y n)

@@ -17,7 +17,7 @@ use gregorian::THURSDAY;
 use gregorian::TUESDAY;
 use gregorian::days::CalendarDay;
 use rule_days::fixed_day;
-use rule_days::is_between;
+use rule_days::is_within;
 use utils::OptionalDay;
 use utils::nth_weekday_of_month;
 
@@ -101,14 +101,14 @@ fn is_bridge_day(day: CalendarDay) -> bool
     ensures { λ r. ⌜ r ≡ isBridgeDay (day .date .year) (day .number) ⌝ }
 {
     let n = day.number;
-    let may_2 = fixed_day(day, 5, 2);
-    let may_6 = fixed_day(day, 5, 6);
-    if !is_between(may_2, may_6, n) {
+    if !is_within(day, 5, 2, 4) {
         return false;
     }
+    let may_2 = fixed_day(day, 5, 2);
     let may_3 = fixed_day(day, 5, 3);
     let may_4 = fixed_day(day, 5, 4);
     let may_5 = fixed_day(day, 5, 5);
+    let may_6 = fixed_day(day, 5, 6);
     ((gregorian::weekday(may_3) == TUESDAY) & (n == may_2))
         | ((gregorian::weekday(may_5) == THURSDAY) & (n == may_6))
         | ((gregorian::weekday(may_4) == SUNDAY) & (n == may_6))

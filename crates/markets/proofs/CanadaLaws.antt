@@ -35,11 +35,10 @@ unfolding boxingDay matchWeekend
 boxing-day-is y = rw (days-on y 12 25 1) (match-both (dayNumber y 12 25) _ _ refl refl)
 
 -- A day but 26 to 28 December is not Boxing Day.
-pub not-boxing-day : (y n d : ℕ) → d ≡ dayNumber y 12 26 → isBetween d (d + 2) n ≡ false → false ≡ eqb n (boxingDay y)
-not-boxing-day y n d e h =
-    not-moved d (d + 2) d (d + 2) (d + 2) n (omega arith) (omega arith) (omega arith) h
-    ∙ ap (λ (i : ℕ). eqb n (matchWeekend i (i + 2) (i + 2))) e
-    ∙ ap (eqb n) (sym (boxing-day-is y))
+pub not-boxing-day : (y n : ℕ) → isBetween (dayNumber y 12 26) (dayNumber y 12 26 + 2) n ≡ false → false ≡ eqb n (boxingDay y)
+not-boxing-day y n e =
+    let boxing = dayNumber y 12 26 in
+    not-moved boxing (boxing + 2) boxing (boxing + 2) (boxing + 2) n (omega arith) (omega arith) (omega arith) e ∙ ap (eqb n) (sym (boxing-day-is y))
 
 module _ (day : CalendarDay) (s : SameDay day) (h : day .number ≤ lastDay) where
   abbrev year : ℕ
@@ -67,7 +66,7 @@ module _ (day : CalendarDay) (s : SameDay day) (h : day .number ≤ lastDay) whe
 
   -- from 26 to 28 December
   boxing : Fits month (12 ∷ []) (eqb n (boxingDay year))
-  boxing = near day s h 12 26 2 (eqb n (boxingDay year)) refl refl (not-boxing-day year n _ refl)
+  boxing = near day s h 12 26 2 (eqb n (boxingDay year)) refl refl (not-boxing-day year n)
 
   pub canada-by-month : contains (getCanadaHolidays year) n ≡ anyOf month (canadaRules year n)
   unfolding getCanadaHolidays

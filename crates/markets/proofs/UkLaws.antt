@@ -30,11 +30,8 @@ christmas-else y n d g p q r =
     (simp (ne-eqb (weekdayOf d) friday p, ne-eqb (weekdayOf d) saturday q, ne-eqb (weekdayOf d) sunday r)) ∙ christmas-on (weekdayOf d) y n d _ refl refl g
 
 -- A day but 25 to 28 December is none of the two.
-pub one-of-two-away : (y n d : ℕ) → isBetween d (d + 3) n ≡ false → d ≡ dayNumber y 12 25 → false ≡ isChristmasOrBoxingDay y n
-unfolding isChristmasOrBoxingDay
-one-of-two-away y n d e g =
-    by (eqb (weekdayOf d) friday) (eqb (weekdayOf d) saturday) (eqb (weekdayOf d) sunday)
-    ∙ ap (λ (x : ℕ). isOneOfTwo n x (weekdayOf x)) g
+not-one-of-two : (n d w : ℕ) → isBetween d (d + 3) n ≡ false → false ≡ isOneOfTwo n d w
+not-one-of-two n d w e = by (eqb w friday) (eqb w saturday) (eqb w sunday)
   where
     is-not : (i : ℕ) → d ≤ i → i ≤ d + 3 → false ≡ eqb n i
     is-not i l u = not-between d (d + 3) i n l u e
@@ -47,6 +44,10 @@ one-of-two-away y n d e g =
     by false true r = neither (d + 2) (d + 3) (omega arith) (omega arith)
     by false false true = neither (d + 1) (d + 2) (omega arith) (omega arith)
     by false false false = neither d (d + 1) (omega arith) (omega arith)
+
+pub not-christmas-or-boxing-day : (y n : ℕ) → isBetween (dayNumber y 12 25) (dayNumber y 12 25 + 3) n ≡ false → false ≡ isChristmasOrBoxingDay y n
+unfolding isChristmasOrBoxingDay
+not-christmas-or-boxing-day y n = not-one-of-two n (dayNumber y 12 25) (weekdayOf (dayNumber y 12 25))
 
 -- Christmas Day is inserted twice, and then Boxing Day.
 twice : (h a b : Bool) → (h || a || a || b) ≡ (h || (a || b))
@@ -100,4 +101,4 @@ module _ (day : CalendarDay) (s : SameDay day) (h : day .number ≤ lastDay) whe
       ∙ simp (contains-day, contains-insert, contains-none)
       (by-month month false (ukRules year n)
       (observed day s h 1 1 refl refl and good-friday day s h and easter-monday day s h and nth day s h 5 monday 1 and last day s h 5 monday refl and last day s h 8 monday refl
-      and near day s h 12 25 3 (isChristmasOrBoxingDay year n) refl refl (λ e. one-of-two-away year n _ e refl) and tt))
+      and near day s h 12 25 3 (isChristmasOrBoxingDay year n) refl refl (not-christmas-or-boxing-day year n) and tt))

@@ -13,10 +13,18 @@ use Rattle.gregorian.proofs.Laws.{days-on}
 use Rattle.gregorian.proofs.Tests.{and-right}
 use Rattle.rule_days.specs.Days.{contains}
 use Rattle.rule_days.specs.Months.{anyOf}
+use Rattle.rule_days.specs.Inner.{isBetween}
 use Rattle.rule_days.proofs.DayLaws.{contains-none, contains-insert, contains-if, contains-day, not-moved}
 use Rattle.rule_days.proofs.MonthLaws.{Fits, _and_, by-month, near, observed, nth, last, good-friday}
 use Rattle.markets.specs.Us.{independenceDay, juneteenth, getUsHolidays}
 use Rattle.markets.specs.MonthFirst.{usRules}
+
+-- A day but 3 to 5 July is not Independence Day.
+pub not-independence-day : (y n : ℕ) → isBetween (dayNumber y 7 3) (dayNumber y 7 3 + 2) n ≡ false → false ≡ eqb n (independenceDay y)
+not-independence-day y n =
+    let july4 = dayNumber y 7 4 in
+    let d = days-on y 7 3 1 in
+    not-moved _ _ july4 (july4 - 1) (july4 + 1) n (omega (arith, d)) (omega (arith, d)) (omega (arith, d))
 
 module _ (day : CalendarDay) (s : SameDay day) (h : day .number ≤ lastDay) where
   abbrev year : ℕ
@@ -28,13 +36,8 @@ module _ (day : CalendarDay) (s : SameDay day) (h : day .number ≤ lastDay) whe
   abbrev month : ℕ
   month = day .date .month
 
-  -- from 3 to 5 July
   independence : Fits month (7 ∷ []) (eqb n (independenceDay year))
-  independence =
-      let july4 = dayNumber year 7 4 in
-      let d = days-on year 7 3 1 in
-      near day s h 7 3 2 (eqb n (independenceDay year)) refl refl
-      (not-moved _ _ july4 (july4 - 1) (july4 + 1) n (omega (arith, d)) (omega (arith, d)) (omega (arith, d)))
+  independence = near day s h 7 3 2 (eqb n (independenceDay year)) refl refl (not-independence-day year n)
 
   from-2021 : Fits month (6 ∷ []) (leb 2021 year && eqb n (juneteenth year))
   from-2021 e = observed day s h 6 19 refl refl (and-right (leb 2021 year) _ e)

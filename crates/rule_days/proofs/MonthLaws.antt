@@ -6,15 +6,15 @@ use mathlib.Core.Bool.{Bool, true, false, cond, not, _&&_, _||_}
 use mathlib.Core.List.{List, [], _∷_}
 use lib.Dec.{leb, eqb}
 use native.Mathlib.Omega.{arith}
-use native.Mathlib.Decide.{decLt}
-use borrow.Author.Tests.{leb-true, eqb-true, eq-eqb, ne-eqb, le-leb, not-true}
+use native.Mathlib.Decide.{decLe, decLt}
+use borrow.Author.Tests.{leb-true, eqb-true, eq-eqb, ne-eqb, le-leb, lt-leb, not-true}
 use Rattle.gregorian.specs.Calendar.{monthLength, total, dayNumber, lastYear, lastDay, isDate, date}
 use Rattle.gregorian.specs.declared.Date.{Date}
 use Rattle.gregorian.specs.declared.days.CalendarDay.{CalendarDay}
 use Rattle.gregorian.specs.Inner.{Exists, SameDay}
 use Rattle.gregorian.proofs.Tests.{and-left, and-right, and-false, every, every-at}
 use Rattle.gregorian.proofs.Laws.{days-on, is-date, date-by, by-number}
-use Rattle.gregorian.proofs.DaySteps.{is-date-of}
+use Rattle.gregorian.proofs.DaySteps.{is-date-of, number-is}
 use Rattle.utils.specs.declared.OptionalDay.{OptionalDay}
 use Rattle.utils.specs.declared.OptionalDay.the-variants.{Day, None}
 use Rattle.utils.specs.Weekday.{mapDay, nthWeekdayOfMonth, lastWeekdayOfMonth}
@@ -92,6 +92,27 @@ pub record DayWithin (t : Date) (m a b : ℕ) : Type 0 where
   pub month : t .month ≡ m
   pub low : a ≤ t .day
   pub high : t .day ≤ b
+
+-- The days of a month and their numbers have one order.
+one-order : (a b c d : ℕ) → (a ≤ b → c ≤ d) → (c ≤ d → a ≤ b) → leb a b ≡ leb c d
+one-order a b c d f g = elim (decLe a b) [
+  | yes h ↦ le-leb a b h ∙ sym (le-leb c d (f h))
+  | no h ↦ not-le a b h ∙ sym (not-le c d (λ k. h (g k)))
+]
+  where
+    not-le : (i j : ℕ) → (i ≤ j → ⊥) → leb i j ≡ false
+    not-le i j h = lt-leb i j (omega arith)
+
+pub same-within : (day : CalendarDay) (m a k : ℕ) → SameDay day → day .date .month ≡ m
+    → (let from = dayNumber (day .date .year) m a in isBetween a (a + k) (day .date .day) ≡ isBetween from (from + k) (day .number))
+unfolding dayNumber
+same-within day m a k s e =
+    let d = day .date .day in
+    let from = dayNumber (day .date .year) m a in
+    let n = sym (number-is day s) ∙ ap (λ (i : ℕ). dayNumber (day .date .year) i d) e in
+    let low = one-order a d from (day .number) (λ l. omega (arith, n, l)) (λ l. omega (arith, n, l)) in
+    let high = one-order d (a + k) (day .number) (from + k) (λ l. omega (arith, n, l)) (λ l. omega (arith, n, l)) in
+    λ j. low j && high j
 
 module _ (day : CalendarDay) (s : SameDay day) (h : day .number ≤ lastDay) where
   abbrev n : ℕ

@@ -35,11 +35,12 @@ fn adjust_for_weekend(n: u32) -> u32
     }
 }
 
-// Whether day n is one of these days, both included.
-pub fn is_between(first: u32, last: u32, n: u32) -> bool
-    ensures { λ r. ⌜ r ≡ isBetween first last n ⌝ }
+// Whether a day is day `first` of the month, which is its own, or one of the k days after that.
+pub fn is_within(day: CalendarDay, month: u32, first: u32, k: u32) -> bool
+    requires { ⌜ SameDay day × (day .date .month ≡ month) × (first ≤ 31) × (k ≤ 31) ⌝ }
+    ensures { λ r. ⌜ (let from = dayNumber (day .date .year) month first in r ≡ isBetween from (from + k) (day .number)) ⌝ }
 {
-    (first <= n) & (n <= last)
+    (first <= day.date.day) & (day.date.day <= first + k)
 }
 
 // Whether a day is day d of its month, or the Monday that this moves to. Only that day and the two after it are compared.
@@ -47,11 +48,10 @@ pub fn is_observed(day: CalendarDay, month: u32, d: u32) -> bool
     requires { ⌜ SameDay day × (day .number ≤ lastDay) × (day .date .month ≡ month) × (d ≤ 31) ⌝ }
     ensures { λ r. ⌜ r ≡ eqb (day .number) (adjustForWeekend (dayNumber (day .date .year) month d)) ⌝ }
 {
-    let date = fixed_day(day, month, d);
-    if !is_between(date, date + 2, day.number) {
+    if !is_within(day, month, d, 2) {
         return false;
     }
-    day.number == adjust_for_weekend(date)
+    day.number == adjust_for_weekend(fixed_day(day, month, d))
 }
 
 // From 20 March to 26 April. Easter is from 22 March to 25 April, so on other days it need not be computed.

@@ -13,9 +13,9 @@ use gregorian::SATURDAY;
 use gregorian::SUNDAY;
 use gregorian::days::CalendarDay;
 use rule_days::fixed_day;
-use rule_days::is_between;
 use rule_days::is_good_friday;
 use rule_days::is_observed;
+use rule_days::is_within;
 use utils::OptionalDay;
 use utils::nth_weekday_of_month;
 
@@ -109,10 +109,8 @@ fn is_boxing_day(day: CalendarDay) -> bool
     requires { ⌜ SameDay day × (day .number ≤ lastDay) × (day .date .month ≡ 12) ⌝ }
     ensures { λ r. ⌜ r ≡ eqb (day .number) (boxingDay (day .date .year)) ⌝ }
 {
-    let n = day.number;
-    let boxing = fixed_day(day, 12, 26);
-    if !is_between(boxing, boxing + 2, n) {
+    if !is_within(day, 12, 26, 2) {
         return false;
     }
-    n == boxing_day(day)
+    day.number == boxing_day(day)
 }

@@ -16,9 +16,9 @@ use gregorian::SUNDAY;
 use gregorian::days::CalendarDay;
 use rule_days::fixed_day;
 use rule_days::is_around_easter;
-use rule_days::is_between;
 use rule_days::is_good_friday;
 use rule_days::is_observed;
+use rule_days::is_within;
 use utils::OptionalDay;
 use utils::easter::calculate_easter_monday;
 use utils::last_weekday_of_month;
@@ -99,11 +99,11 @@ fn is_christmas_or_boxing_day(day: CalendarDay) -> bool
     requires { ⌜ SameDay day × (day .number ≤ lastDay) × (day .date .month ≡ 12) ⌝ }
     ensures { λ r. ⌜ r ≡ isChristmasOrBoxingDay (day .date .year) (day .number) ⌝ }
 {
-    let n = day.number;
-    let christmas = fixed_day(day, 12, 25);
-    if !is_between(christmas, christmas + 3, n) {
+    if !is_within(day, 12, 25, 3) {
         return false;
     }
+    let n = day.number;
+    let christmas = fixed_day(day, 12, 25);
     match gregorian::weekday(christmas) {
         FRIDAY => (n == christmas) | (n == christmas + 3),
         SATURDAY => (n == christmas + 2) | (n == christmas + 3),

@@ -14,9 +14,9 @@ use gregorian::SUNDAY;
 use gregorian::THURSDAY;
 use gregorian::days::CalendarDay;
 use rule_days::fixed_day;
-use rule_days::is_between;
 use rule_days::is_good_friday;
 use rule_days::is_observed;
+use rule_days::is_within;
 use utils::OptionalDay;
 use utils::last_weekday_of_month;
 use utils::nth_weekday_of_month;
@@ -111,12 +111,10 @@ fn is_independence_day(day: CalendarDay) -> bool
     requires { ⌜ SameDay day × (day .number ≤ lastDay) × (day .date .month ≡ 7) ⌝ }
     ensures { λ r. ⌜ r ≡ eqb (day .number) (independenceDay (day .date .year)) ⌝ }
 {
-    let n = day.number;
-    let july_4 = fixed_day(day, 7, 4);
-    if !is_between(july_4 - 1, july_4 + 1, n) {
+    if !is_within(day, 7, 3, 2) {
         return false;
     }
-    n == independence_day(day)
+    day.number == independence_day(day)
 }
 
 // The 1st Monday of September.

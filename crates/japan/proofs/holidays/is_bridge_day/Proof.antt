@@ -11,22 +11,19 @@ use Rattle.japan.proofs.holidays.is_bridge_day.Statement.{statement}
 use Rattle.japan.proofs.holidays.is_bridge_day.Tie as tie
 
 returns : tie.Need-returns
-returns c =
-    let s = c .before .before in
-    not-bridge-day _ _ _ _ (s .before .fixed-day .ensures .0) (s .fixed-day2 .ensures .0)
-    (sym (c .before .is-between .ensures) ∙ not-true _ (c .if1 .taken))
+returns c = not-bridge-day _ _ (sym (c .before .is-within .ensures) ∙ not-true _ (c .if1 .taken))
 
 returns-2 : tie.Need-returns-2
 unfolding isBridgeDay
 returns-2 c =
     let s = c .before .before .before in
-    let t = s .before .before .before .before .before in
-    let n = t .before .before .args .day .number in
-    let may2 = t .before .fixed-day .ensures .0 in
-    let may6 = t .fixed-day2 .ensures .0 in
-    let may3 = s .before .before .fixed-day3 .ensures .0 in
-    let may4 = s .before .fixed-day4 .ensures .0 in
-    let may5 = s .fixed-day5 .ensures .0 in
+    let t = s .before .before .before .before in
+    let n = t .before .before .before .args .day .number in
+    let may2 = t .fixed-day .ensures .0 in
+    let may3 = s .before .before .before .fixed-day2 .ensures .0 in
+    let may4 = s .before .before .fixed-day3 .ensures .0 in
+    let may5 = s .before .fixed-day4 .ensures .0 in
+    let may6 = s .fixed-day5 .ensures .0 in
     let on3 = c .before .before .weekday .ensures ∙ ap weekdayOf may3 in
     let on5 = c .before .weekday2 .ensures ∙ ap weekdayOf may5 in
     let on4 = c .weekday3 .ensures ∙ ap weekdayOf may4 in
@@ -35,4 +32,5 @@ returns-2 c =
 pub is-bridge-day-spec : {M : Type 1} → statement M
 is-bridge-day-spec =
     tie.close
-    (tie.spec (λ c κs. search needs) (λ c κs. search needs) (search needs) returns (λ c κs. search needs) (λ c κs. search needs) (λ c κs. search needs) (search needs) (search needs) (search needs) returns-2)
+    (tie.spec (λ c κs. search needs) returns (λ c κs. search needs) (λ c κs. search needs) (λ c κs. search needs) (λ c κs. search needs) (λ c κs. search needs) (search needs) (search needs)
+    (search needs) returns-2)

@@ -8,12 +8,12 @@ use Rattle.markets.proofs.canada.holidays.is_boxing_day.Statement.{stat
 use Rattle.markets.proofs.canada.holidays.is_boxing_day.Tie as tie
 
 returns : tie.Need-returns
-returns c = not-boxing-day _ _ _ (c .before .before .fixed-day .ensures .0) (sym (c .before .is-between .ensures) ∙ not-true _ (c .if1 .taken))
+returns c = not-boxing-day _ _ (sym (c .before .is-within .ensures) ∙ not-true _ (c .if1 .taken))
 
 returns-2 : tie.Need-returns-2
-returns-2 c = ap (eqb (c .before .before .before .before .args .day .number)) (c .boxing-day .ensures)
+returns-2 c = ap (eqb (c .before .before .before .before .args .day .number)) (c .before .boxing-day .ensures)
 
 pub is-boxing-day-spec : {M : Type 1} → statement M
 is-boxing-day-spec =
     tie.close
-    (tie.spec (λ c κs. search needs) (search needs) (search needs) returns (λ c κs. search needs) returns-2)
+    (tie.spec (λ c κs. search needs) returns (λ c κs. search needs) returns-2)
