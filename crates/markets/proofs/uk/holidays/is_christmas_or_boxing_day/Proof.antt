@@ -29,4 +29,4 @@ pub is-christmas-or-boxing-day-spec : {M : Type 1} → statement M
 is-christmas-or-boxing-day-spec =
     tie.close
     (tie.spec (λ c κs. search needs) returns (λ c κs. search needs) (search needs) (search needs) (search needs) (search needs) (search needs)
-    (search needs) returns-2 returns-3 returns-4 returns-5)
+    (search needs) (search needs) returns-2 returns-3 returns-4 returns-5)
