@@ -1,9 +1,9 @@
--- Every row of the table holds. One test of all rows is computed, and a lemma turns it into the facts.
+-- Every row of the two tables holds. One test of all rows is computed, and a lemma turns it into the facts.
 -- Assumes nothing.
 use Prim.Native.Nat.{ℕ}
 use mathlib.Core.Path.{_≡_, refl, ap, _∙_}
 use mathlib.Core.Bool.{Bool, true, cond, not}
-use mathlib.Core.List.{List, [], _∷_, map}
+use mathlib.Core.List.{List, [], _∷_, _++_, map}
 use Rattle.gregorian.specs.declared.Date.{Date}
 use Rattle.utils.specs.Easter.{calculateEaster}
 use Rattle.markets.specs.Markets.{isMarket}
@@ -20,7 +20,7 @@ use Rattle.answers.specs.declared.BoolAnswer.{BoolAnswer}
 use Rattle.answers.specs.declared.neighbours.TradingDayAnswer.{TradingDayAnswer}
 use Rattle.answers.specs.declared.counts.CountAnswer.{CountAnswer}
 use Rattle.answers.specs.Answers.{flagOf, boolAnswer, tradingDayAnswer, countAnswer}
-use Rattle.examples.specs.Examples.{Example, CalculateEaster, IsTradingDay, IsHoliday, NextTradingDay, CountTradingDays, Holds, examples, ExamplesHold}
+use Rattle.examples.specs.Examples.{Example, CalculateEaster, IsTradingDay, IsHoliday, NextTradingDay, CountTradingDays, Holds, examples, monthFirstExamples, ExamplesHold}
 use Rattle.examples.proofs.ClosedRules.{holidayRule, tradingRule, closedOptional, closedNextResult}
 
 -- ---- the answers, by any rule in the place of the market's
@@ -61,9 +61,9 @@ all-hold : (rows : List Example) → map computed rows ≡ rows → Every Holds 
 all-hold [] q = tt
 all-hold (e ∷ rows) q = (holds e cc, all-hold rows cc)
 
-all-computed : map computed examples ≡ examples
+all-computed : map computed (examples ++ monthFirstExamples) ≡ examples ++ monthFirstExamples
 unfolding daysFrom computed holidayRule tradingRule closedOptional closedNextResult countFrom distanceOf isMarket isSupported lastDayOf checkedDay supportedDay leavesYears checkedRange flagOf boolAnswer tradingDayAnswer countAnswer errorFields
 all-computed = refl
 
 pub examples-hold : ExamplesHold
-examples-hold = all-hold examples all-computed
+examples-hold = all-hold (examples ++ monthFirstExamples) all-computed

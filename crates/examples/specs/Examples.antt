@@ -1,7 +1,7 @@
 -- The dates of docs/SCOPE.md [examples] that are proved, in one table. Assumes nothing.
 use Prim.Native.Nat.{ℕ}
 use mathlib.Core.Path.{_≡_}
-use mathlib.Core.List.{List, _∷_, _++_, map}
+use mathlib.Core.List.{List, [], _∷_, _++_, map}
 use lib.ListN.{length}
 use Rattle.gregorian.specs.declared.Date.{Date}
 use Rattle.gregorian.specs.Calendar.{date}
@@ -73,6 +73,14 @@ examples =
     ∷ forEachMarket (λ market. CountTradingDays market (date 2031 1 1) (date 2030 12 31) (counted 0))
     ++ forEachMarket (λ market. CountTradingDays market (date 2031 1 1) (date 2031 1 1) (outOfRange (date 2031 1 1)))
 
--- every row of the table holds
+-- the row of [month-first], between Good Friday, which is in another month, and whether it trades
+abbrev pub monthFirstExamples : List Example
+monthFirstExamples =
+    IsHoliday lse (date 2024 3 29) isYes
+    ∷ IsHoliday lse (date 2024 4 1) isYes
+    ∷ IsTradingDay lse (date 2024 4 1) isNo
+    ∷ []
+
+-- every row of the two tables holds
 abbrev pub ExamplesHold : Type 0
-ExamplesHold = Every Holds examples
+ExamplesHold = Every Holds (examples ++ monthFirstExamples)

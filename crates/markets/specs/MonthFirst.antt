@@ -1,12 +1,12 @@
 -- The holidays of each market by the months that they can fall in, and the claim that a day tested by those of its month alone is
 -- tested as by the whole year's: docs/SCOPE.md [month-first]. Assumes nothing.
-use Prim.Native.Nat.{ℕ, _+_, _≤_}
+use Prim.Native.Nat.{ℕ, _+_}
 use mathlib.Core.Path.{_≡_}
-use mathlib.Core.Bool.{Bool, cond, _&&_, _||_}
+use mathlib.Core.Bool.{Bool, true, cond, _&&_, _||_}
 use mathlib.Core.List.{List, [], _∷_}
 use lib.Dec.{leb, eqb}
 use lib.ListN.{getD}
-use Rattle.gregorian.specs.Calendar.{monday, friday, saturday, sunday, firstDay, lastDay, dayNumber, dateOf, weekdayOf}
+use Rattle.gregorian.specs.Calendar.{monday, friday, saturday, sunday, isDate, dayNumber, weekdayOf}
 use Rattle.utils.specs.Weekday.{nthWeekdayOfMonth, lastWeekdayOfMonth}
 use Rattle.utils.specs.Easter.{calculateGoodFriday, calculateEasterMonday}
 use Rattle.rule_days.specs.Days.{contains, isDay, adjustForWeekend}
@@ -76,8 +76,9 @@ rulesByCode = usRules ∷ usRules ∷ ukRules ∷ japanRules ∷ canadaRules ∷
 abbrev pub rules : ℕ → ℕ → ℕ → List Rule
 rules market = getD rulesByCode market (λ year n. [])
 
--- the claim: for every code and every day of years 1 to 9999, asking the rules that can fall in the month of the day, and no other,
--- answers as membership in the whole year's holidays
+-- the claim: for every code and every date of years 1 to 9999, asking the rules that can fall in its month, and no other, answers as
+-- membership in the whole year's holidays
 abbrev pub MonthFirst : Type 0
 MonthFirst =
-    (market n : ℕ) → firstDay ≤ n → n ≤ lastDay → anyOf (dateOf n .month) (rules market (dateOf n .year) n) ≡ contains (holidays market (dateOf n .year)) n
+    (market y m d : ℕ) → isDate y m d ≡ true
+    → (let n = dayNumber y m d in anyOf m (rules market y n) ≡ contains (holidays market y) n)

@@ -61,8 +61,8 @@ pub fn next_trading_day(market: u32, year: u32, month: u32, day: u32) -> Trading
     match checked_day(market, year, month, day) {
         DayResult::Ok(n) => {
             let date = Date { year, month, day };
-            let neighbour = neighbours::next_trading_day(market, CalendarDay { number: n, date });
-            trading_day_result(year, n, neighbour)
+            let from = CalendarDay { number: n, date };
+            trading_day_result(year, n, neighbours::next_trading_day(market, from))
         }
         DayResult::Err(e) => TradingDayResult::Err(e),
     }
@@ -75,11 +75,8 @@ pub fn previous_trading_day(market: u32, year: u32, month: u32, day: u32) -> Tra
     match checked_day(market, year, month, day) {
         DayResult::Ok(n) => {
             let date = Date { year, month, day };
-            let neighbour = neighbours::previous_trading_day(
-                market,
-                CalendarDay { number: n, date },
-            );
-            trading_day_result(year, n, neighbour)
+            let from = CalendarDay { number: n, date };
+            trading_day_result(year, n, neighbours::previous_trading_day(market, from))
         }
         DayResult::Err(e) => TradingDayResult::Err(e),
     }

@@ -22,12 +22,12 @@ pub fn count(market: u32, first: CalendarDay, last: u32) -> u32
     ensures { λ r. ⌜ r ≡ countTradingDays (isTradingDay market) (first .number) last ⌝ }
 {
     let mut count = 0;
-    let mut day = first;
-    while day.number <= last {
-        if is_trading_day(market, day) {
+    let mut current = first;
+    while current.number <= last {
+        if is_trading_day(market, current) {
             count += 1;
         }
-        day = day_after(day);
+        current = day_after(current);
     }
     count
 }

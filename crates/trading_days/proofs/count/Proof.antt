@@ -14,13 +14,13 @@ use Rattle.trading_days.proofs.count.Tie as tie
 
 -- the count so far, with that of the days that are left, is all of the count
 abbrev Inv-loop : tie.InvT-loop
-Inv-loop market last count₀ day₀ count day =
+Inv-loop market last count₀ first count day =
     SameDay day × (last ≤ lastDay) × (count < day .number)
-    × (countTradingDays (isTradingDay market) (day₀ .number) last ≡ countFrom (isTradingDay market) count (day .number) (suc last - day .number))
+    × (countTradingDays (isTradingDay market) (first .number) last ≡ countFrom (isTradingDay market) count (day .number) (suc last - day .number))
 
 -- the days left
 abbrev μ-loop : tie.MeasureT-loop
-μ-loop market last count₀ day₀ count day = suc last - day .number
+μ-loop market last count₀ first count day = suc last - day .number
 
 loop-holds : tie.Need-loop-holds Inv-loop μ-loop
 loop-holds c = (c .pre .0, c .pre .1, omega (arith, c .pre .0 .low), refl)
@@ -42,7 +42,7 @@ loop-again c =
     let s = c .before .before .before .before .before in
     let trades = isTradingDay (s .before .args .market) in
     let last = s .before .args .last in
-    let day = s .loop .day .number in
+    let day = s .loop .current .number in
     let e = c .day-after .ensures in
     let asked = sym (c .before .before .is-trading-day .ensures) in
     let rest : ℕ → ℕ → ℕ = λ n i. countFrom trades n i (suc last - i) in
@@ -56,7 +56,7 @@ returns c =
     let s = c .before .before in
     sym
     (s .loop .inv .3
-    ∙ count-done (isTradingDay (s .before .args .market)) (s .loop .count) (s .loop .day .number) (s .before .args .last) (omega arith))
+    ∙ count-done (isTradingDay (s .before .args .market)) (s .loop .count) (s .loop .current .number) (s .before .args .last) (omega arith))
 
 pub count-spec : {M : Type 1} → statement M
 count-spec =
