@@ -36,11 +36,11 @@ pub extern "C" fn all_years_day(market: u32, year: u32, month: u32, day: u32) ->
     match known_day(market, year, month, day) {
         OptionalDay::Day(n) => {
             let date = gregorian::date_of(n);
-            let known_day = CalendarDay { number: n, date };
+            let dated = CalendarDay { number: n, date };
             DayAnswer {
                 known: true,
-                holiday: markets::is_holiday(market, known_day),
-                trades: markets::is_trading_day(market, known_day),
+                holiday: markets::is_holiday(market, dated),
+                trades: markets::is_trading_day(market, dated),
             }
         }
         OptionalDay::None => DayAnswer {

@@ -140,10 +140,6 @@ module _ {A : Type 0} (error : CalendarError → A) (rest : ℕ → ℕ → A) (
 
 -- days a and b of the start and the end
 pub record CheckedRange (start end : Date) (a b : ℕ) : Type 0 where
-  pub start-date : isDateOf start ≡ true
-  pub end-date : isDateOf end ≡ true
-  pub start-is : a ≡ number start
-  pub end-is : b ≡ number end
   pub start-year : minYear ≤ start .year
   pub end-year : end .year ≤ maxYear
   pub same : SameDay (record { number = a; date = start })
@@ -174,10 +170,6 @@ module _ (start end : Date) where
       let i : a ≡ number start = cc in
       let k : b ≡ number end = cc in
       record {
-        start-date = s;
-        end-date = e;
-        start-is = i;
-        end-is = k;
         start-year = ltb-false (start .year) minYear (years .0);
         end-year = ltb-false maxYear (end .year) (years .1);
         same = same-day (start .year) (start .month) (start .day) a s i;

@@ -1,4 +1,4 @@
--- The dates of docs/SCOPE.md [examples] that are proved, in one table. Assumes nothing.
+-- The dates of docs/SCOPE.md [examples] and [month-first] that are proved, in two tables. Assumes nothing.
 use Prim.Native.Nat.{ℕ}
 use mathlib.Core.Path.{_≡_}
 use mathlib.Core.List.{List, [], _∷_, _++_, map}
@@ -73,7 +73,7 @@ examples =
     ∷ forEachMarket (λ market. CountTradingDays market (date 2031 1 1) (date 2030 12 31) (counted 0))
     ++ forEachMarket (λ market. CountTradingDays market (date 2031 1 1) (date 2031 1 1) (outOfRange (date 2031 1 1)))
 
--- the row of [month-first], between Good Friday, which is in another month, and whether it trades
+-- [month-first]: LSE's Easter Monday of 2024 is in April, its Good Friday in March
 abbrev pub monthFirstExamples : List Example
 monthFirstExamples =
     IsHoliday lse (date 2024 3 29) isYes

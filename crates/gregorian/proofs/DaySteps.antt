@@ -1,16 +1,35 @@
--- The day before a date as the code finds it, and the number and the date of one day.
+-- The day after and the day before a date as the code finds them, and the number and the date of one day.
 -- Assumes nothing.
 use Prim.Native.Nat.{ℕ, suc, _+_, _-_, _≤_, _<_}
 use mathlib.Core.Path.{_≡_, ap, sym, _∙_}
-use mathlib.Core.Bool.{true}
-use lib.Dec.{lit≤}
+use mathlib.Core.Bool.{Bool, true, false}
+use lib.Dec.{ltb, lit≤}
 use native.Mathlib.Omega.{arith}
 use native.Mathlib.Decide.{decLe}
+use borrow.Author.Tests.{lt-ltb, le-ltb}
 use Rattle.gregorian.specs.declared.Date.{Date}
 use Rattle.gregorian.specs.declared.days.CalendarDay.{CalendarDay}
 use Rattle.gregorian.specs.Calendar.{total, monthLength, dayNumber, lastDay, isDate, isDateOf, dayAfter, dateOf, date, number, dayBefore}
-use Rattle.gregorian.specs.Inner.{Exists, SameDay}
+use Rattle.gregorian.specs.Inner.{SameDay}
 use Rattle.gregorian.proofs.Laws.{DateExists, is-date, month-low, to-month, to-year, by-number, number-of-date, date-of-is, number-range}
+
+-- ---- the day after
+
+module _ (t : Date) where
+  abbrev goes-on : Bool
+  goes-on = ltb (t .day) (monthLength (t .year) (t .month))
+
+  pub after-in-month : goes-on ≡ true → date (t .year) (t .month) (t .day + 1) ≡ dayAfter t
+  unfolding dayAfter
+  after-in-month e = simp e
+
+  pub after-month : goes-on ≡ false → t .month < 12 → date (t .year) (t .month + 1) 1 ≡ dayAfter t
+  unfolding dayAfter
+  after-month e l = simp (e, lt-ltb (t .month) 12 l)
+
+  pub after-year : goes-on ≡ false → 12 ≤ t .month → date (t .year + 1) 1 1 ≡ dayAfter t
+  unfolding dayAfter
+  after-year e l = simp (e, le-ltb (t .month) 12 l)
 
 -- ---- the day before
 

@@ -3,7 +3,7 @@
 use Prim.Native.Nat.{ℕ, zero, suc, _+_, _-_, _≤_, _<_}
 use mathlib.Core.Path.{_≡_, refl, ap, sym, _∙_, subst}
 use mathlib.Core.Bool.{Bool, true, false, cond, _&&_}
-use mathlib.Core.Logic.{_⊎_, inl, inr, ⊎-elim}
+use mathlib.Core.Logic.{_⊎_, ⊎-elim}
 use lib.Dec.{leb, ltb, lit≤}
 use native.Mathlib.Omega.{arith}
 use native.Mathlib.Decide.{decLt}
@@ -79,7 +79,7 @@ day-of-year y m d h =
     omega (arith, total-mono (monthLength y) m 12 (h .m-high), total-next (monthLength y) m (h .m-low), year-of-months y)
 
 -- The day after exists, and its number is one more.
-abbrev pub NextDay : Date → Date → Type 0
+abbrev NextDay : Date → Date → Type 0
 NextDay t u = (number u ≡ number t + 1) × DateExists u
 
 in-month : (t : Date) → DateExists t → t .day < monthLength (t .year) (t .month) → NextDay t (date (t .year) (t .month) (t .day + 1))
@@ -234,35 +234,6 @@ number-before s t hs ht =
     (λ g. ⊎-elim (λ l. later-month _ _ _ _ _ hs g l)
     (λ v. subst (λ (m : ℕ). number s < dayNumber (s .year) m (t .day)) (v .0) (later-day (s .year) (s .month) (s .day) (t .day) (v .1)))
     (w .1)) ht)
-
--- Dates follow the order of numbers: of two dates one is before the other, or they are one.
-trichotomy : (s t : Date) → Before s t ⊎ (Before t s ⊎ (number s ≡ number t))
-trichotomy s t = elim (decLt (s .year) (t .year)) [
-  | yes a ↦ inl (inl a)
-  | no a ↦ elim (decLt (t .year) (s .year)) [
-    | yes b ↦ inr (inl (inl b))
-    | no b ↦ let y : s .year ≡ t .year = omega arith in elim (decLt (s .month) (t .month)) [
-      | yes c ↦ inl (inr (y, inl c))
-      | no c ↦ elim (decLt (t .month) (s .month)) [
-        | yes d ↦ inr (inl (inr (sym y, inl d)))
-        | no d ↦ let m : s .month ≡ t .month = omega arith in elim (decLt (s .day) (t .day)) [
-          | yes e ↦ inl (inr (y, inr (m, e)))
-          | no e ↦ elim (decLt (t .day) (s .day)) [
-            | yes f ↦ inr (inl (inr (sym y, inr (sym m, f))))
-            | no f ↦ let d′ : s .day ≡ t .day = omega arith in inr (inr (cc))
-          ]
-        ]
-      ]
-    ]
-  ]
-]
-
-pub before-number : (s t : Date) → DateExists s → DateExists t → number s < number t → Before s t
-before-number s t hs ht l =
-    ⊎-elim (λ (b : Before s t). b)
-    (λ (w : Before t s ⊎ (number s ≡ number t)).
-    ⊎-elim (λ (b : Before t s). let g = number-before t s ht hs b in absurd (omega (arith, g))) (λ (e : number s ≡ number t). absurd (omega arith)) w)
-    (trichotomy s t)
 
 -- the year of a date, by its day number
 pub year-of-number : (y m d : ℕ) → isDate y m d ≡ true → y ≡ dateOf (dayNumber y m d) .year

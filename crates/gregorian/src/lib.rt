@@ -1,5 +1,5 @@
 // The Gregorian calendar: leap years, month lengths, dates, day numbers and weekdays, in closed
-// arithmetic. A date inside the library is its day number, a u32: 0001-01-01 is 1.
+// arithmetic. A date inside the library is its day number, a u32: 0001-01-01 is 1. Searches carry both, as `days` has them.
 pub mod days;
 
 ghost use mathlib.Core.Path.{_≡_};
@@ -122,7 +122,7 @@ pub fn day_number(year: u32, month: u32, day: u32) -> u32
 }
 
 // By the mean length of a year, 146097 / 400 days, which gives the year's place or one too low.
-pub fn year_of(n: u32) -> u32
+fn year_of(n: u32) -> u32
     requires { ⌜ (1 ≤ n) × (n ≤ lastDay) ⌝ }
     ensures { λ r. ⌜ (r ≡ dateOf n .year) × Within yearLength lastYear n r ⌝ }
 {

@@ -19,12 +19,11 @@ use Rattle.utils.specs.declared.OptionalDay.{OptionalDay}
 use Rattle.utils.specs.declared.OptionalDay.the-variants.{Day, None}
 use Rattle.utils.specs.Weekday.{nthWeekdayOfMonth}
 use Rattle.utils.proofs.WeekdayLaws.{when-day, first-near, nth-weekday}
-use Rattle.rule_days.specs.Months.{anyOf}
-use Rattle.rule_days.proofs.MonthLaws.{Fits, _and_, by-month, year-range, near, fixed, nth}
+use Rattle.rule_days.specs.Inner.{anyOf, isBetween, everyYearHas, everyBetween}
+use Rattle.rule_days.proofs.RuleMonths.{Fits, _and_, by-month, year-range, near, fixed, nth}
 use Rattle.rule_days.specs.Days.{contains, insert, insertIf, insertDay, isDay}
-use Rattle.rule_days.specs.Inner.{isBetween, everyYearHas, everyBetween}
 use Rattle.japan.specs.Japan.{substituteDay, addWithSubstitute, addDayWithSubstitute, vernalDays, autumnalDays, equinox, applyGoldenWeekRules, getJapanHolidays}
-use Rattle.japan.specs.JapanMonths.{isWithSubstitute, isDayWithSubstitute, isBridgeDay, japanRules}
+use Rattle.japan.specs.Inner.{isWithSubstitute, isDayWithSubstitute, isBridgeDay, japanRules}
 use Rattle.rule_days.proofs.DayLaws.{or-assoc, or-false, contains-none, contains-insert, contains-if, not-between, every-year-date}
 
 -- The equinoxes: what is computed of a table holds of each of its days.

@@ -1,2 +1,2 @@
 pub mod Japan
-pub mod JapanMonths
+pub mod Inner

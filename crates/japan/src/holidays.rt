@@ -1,16 +1,16 @@
 // The holidays of TSE, as src/markets/japan/holidays.rs has them: docs/SCOPE.md [tse-holidays]. The month comes first [month-first]:
-// an arm computes the holidays that can fall in it alone. A substitute is always the next day: the Rust places it before any later
-// holiday is in its set.
+// an arm computes the holidays that can fall in it alone, those of a weekday on that weekday. A substitute is always the next day: the
+// Rust places it before any later holiday is in its set.
 ghost use mathlib.Core.Path.{_≡_};
 ghost use mathlib.Core.Bool.{true};
 ghost use Prim.Native.Nat.{_+_, _≤_};
 ghost use Rattle.gregorian.specs.Calendar.{monday, lastDay, dayNumber};
 ghost use Rattle.gregorian.specs.Inner.{SameDay};
 ghost use Rattle.utils.specs.Weekday.{nthWeekdayOfMonth};
-ghost use Rattle.rule_days.specs.Days.{contains, isDay};
-ghost use Rattle.rule_days.specs.Inner.{everyBetween};
-ghost use Rattle.japan.specs.Japan.{equinox, getJapanHolidays};
-ghost use Rattle.japan.specs.JapanMonths.{isWithSubstitute, isDayWithSubstitute, isBridgeDay};
+ghost use Rattle.rule_days.specs.Days.{isDay};
+ghost use Rattle.rule_days.specs.Inner.{anyOf, everyBetween};
+ghost use Rattle.japan.specs.Japan.{equinox};
+ghost use Rattle.japan.specs.Inner.{isWithSubstitute, isDayWithSubstitute, isBridgeDay, japanRules};
 use gregorian::MONDAY;
 use gregorian::SUNDAY;
 use gregorian::THURSDAY;
@@ -29,7 +29,7 @@ const AUTUMNAL_DAYS: [u32; 11] = [22, 23, 23, 23, 22, 23, 23, 23, 22, 23, 23];
 // Whether a day is a holiday of its year.
 pub fn is_japan_holiday(day: CalendarDay) -> bool
     requires { ⌜ SameDay day × (day .number ≤ lastDay) ⌝ }
-    ensures { λ r. ⌜ r ≡ contains (getJapanHolidays (day .date .year)) (day .number) ⌝ }
+    ensures { λ r. ⌜ r ≡ anyOf (day .date .month) (japanRules (day .date .year) (day .number)) ⌝ }
 {
     let n = day.number;
     let month = day.date.month;
@@ -114,7 +114,7 @@ fn is_bridge_day(day: CalendarDay) -> bool
         | ((gregorian::weekday(may_4) == SUNDAY) & (n == may_6))
 }
 
-// The 2nd Monday of January. On another weekday none of these is computed.
+// The 2nd Monday of January.
 fn is_coming_of_age_day(day: CalendarDay) -> bool
     ensures { λ r. ⌜ r ≡ isDay (nthWeekdayOfMonth (day .date .year) 1 monday 2) (day .number) ⌝ }
 {

@@ -1,20 +1,18 @@
--- The codes of the markets, and the holidays of a market by its code.
+-- The codes of the markets, and the rules of a market by its code.
 -- Assumes nothing.
 use Prim.Native.Nat.{ℕ, suc, _≤_, _<_}
 use mathlib.Core.Path.{_≡_, refl, ap, sym, _∙_}
-use mathlib.Core.Bool.{Bool, true, false}
+use mathlib.Core.Bool.{true, false}
 use mathlib.Core.List.{List, []}
 use lib.Dec.{ltb, leb}
 use lib.ListN.{length, List·getD-eq-default}
 use native.Mathlib.Decide.{decLe}
 use native.Mathlib.Omega.{arith}
 use borrow.Author.Tests.{lt-ltb, le-ltb, ltb-true, lt-leb, le-leb}
-use Rattle.gregorian.specs.Calendar.{dateOf}
 use Rattle.gregorian.proofs.Total.{upto}
-use Rattle.rule_days.specs.Days.{contains}
-use Rattle.markets.specs.Us.{getUsHolidays}
-use Rattle.markets.specs.Markets.{holidaysByCode, isMarket, holidays, isHoliday}
-use Rattle.rule_days.proofs.DayLaws.{contains-none}
+use Rattle.rule_days.specs.Inner.{Rule, anyOf}
+use Rattle.markets.specs.Markets.{holidaysByCode, isMarket}
+use Rattle.markets.specs.Inner.{usRules, rulesByCode, rules}
 
 -- ---- the codes
 
@@ -29,20 +27,12 @@ pub market-code : (m : ℕ) → isMarket m ≡ true → m < length holidaysByCod
 unfolding isMarket
 market-code m e = ltb-true m (length holidaysByCode) e
 
--- ---- the holidays
+-- ---- the rules
 
 -- NYSE and NASDAQ
-pub us-market : (m : ℕ) → m < 2 → holidays m ≡ getUsHolidays
-unfolding holidays
-us-market m h = upto (λ m. holidays m ≡ getUsHolidays) 2 ((tt, refl), refl) m h
+pub us-market : (market month year n : ℕ) → market < 2 → anyOf month (usRules year n) ≡ anyOf month (rules market year n)
+us-market market month year n h = upto (λ market. anyOf month (usRules year n) ≡ anyOf month (rules market year n)) 2 ((tt, refl), refl) market h
 
-pub no-market : (m n : ℕ) → length holidaysByCode ≤ m → false ≡ isHoliday m n
-unfolding isHoliday holidays
-no-market m n h =
-    sym (ap (λ (f : ℕ → List ℕ). contains (f (dateOf n .year)) n) (List·getD-eq-default holidaysByCode (λ year. []) {n = m} (omega arith)) ∙ contains-none n)
-
--- an answer for the year y, which is that of n, and the code k, which is that of the market
-pub by-code : (m k n y : ℕ) (r : Bool) → r ≡ contains (holidays k y) n → y ≡ dateOf n .year → m ≡ k → r ≡ isHoliday m n
-unfolding isHoliday
-by-code m k n y r e d h =
-    e ∙ ap (λ (i : ℕ). contains (holidays k i) n) d ∙ ap (λ (i : ℕ). contains (holidays i (dateOf n .year)) n) (sym h)
+pub no-market : (market month year n : ℕ) → length rulesByCode ≤ market → false ≡ anyOf month (rules market year n)
+no-market market month year n h =
+    ap (λ (f : ℕ → ℕ → List Rule). anyOf month (f year n)) (sym (List·getD-eq-default rulesByCode (λ year n. []) {n = market} h))

@@ -13,12 +13,11 @@ use Rattle.gregorian.proofs.Weekdays.{weekday-after}
 use Rattle.gregorian.specs.declared.days.CalendarDay.{CalendarDay}
 use Rattle.gregorian.specs.Inner.{SameDay}
 use Rattle.rule_days.specs.Days.{contains, insert, adjustForWeekend}
-use Rattle.rule_days.specs.Months.{anyOf}
-use Rattle.rule_days.specs.Inner.{isBetween}
+use Rattle.rule_days.specs.Inner.{anyOf, isBetween}
 use Rattle.markets.specs.Uk.{addBoxingDay, getUkHolidays}
-use Rattle.markets.specs.MonthFirst.{isOneOfTwo, isChristmasOrBoxingDay, ukRules}
+use Rattle.markets.specs.Inner.{isOneOfTwo, isChristmasOrBoxingDay, ukRules}
 use Rattle.rule_days.proofs.DayLaws.{contains-none, contains-insert, contains-day, not-between, on-key, on-weekday}
-use Rattle.rule_days.proofs.MonthLaws.{_and_, by-month, near, observed, nth, last, good-friday, easter-monday}
+use Rattle.rule_days.proofs.RuleMonths.{_and_, by-month, near, observed, nth, last, good-friday, easter-monday}
 
 -- The arms of the code, one of a weekday k, and the last.
 pub christmas-on : (k y n d w : ℕ) → w ≡ k → w ≡ weekdayOf d → d ≡ dayNumber y 12 25 → isOneOfTwo n d k ≡ isChristmasOrBoxingDay y n

@@ -12,12 +12,11 @@ use Rattle.gregorian.specs.Inner.{SameDay}
 use Rattle.gregorian.proofs.Laws.{days-on}
 use Rattle.gregorian.proofs.Tests.{and-right}
 use Rattle.rule_days.specs.Days.{contains}
-use Rattle.rule_days.specs.Months.{anyOf}
-use Rattle.rule_days.specs.Inner.{isBetween}
+use Rattle.rule_days.specs.Inner.{anyOf, isBetween}
 use Rattle.rule_days.proofs.DayLaws.{contains-none, contains-insert, contains-if, contains-day, not-moved}
-use Rattle.rule_days.proofs.MonthLaws.{Fits, _and_, by-month, near, observed, nth, last, good-friday}
+use Rattle.rule_days.proofs.RuleMonths.{Fits, _and_, by-month, near, observed, nth, last, good-friday}
 use Rattle.markets.specs.Us.{independenceDay, juneteenth, getUsHolidays}
-use Rattle.markets.specs.MonthFirst.{usRules}
+use Rattle.markets.specs.Inner.{usRules}
 
 -- A day but 3 to 5 July is not Independence Day.
 pub not-independence-day : (y n : ℕ) → isBetween (dayNumber y 7 3) (dayNumber y 7 3 + 2) n ≡ false → false ≡ eqb n (independenceDay y)

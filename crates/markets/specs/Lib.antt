@@ -2,5 +2,5 @@ pub mod Us
 pub mod Uk
 pub mod Canada
 pub mod Markets
-pub mod MonthFirst
 pub mod Years
+pub mod Inner

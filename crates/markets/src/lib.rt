@@ -8,7 +8,9 @@ ghost use mathlib.Core.Path.{_≡_};
 ghost use Prim.Native.Nat.{_≤_};
 ghost use Rattle.gregorian.specs.Calendar.{lastDay, date};
 ghost use Rattle.gregorian.specs.Inner.{SameDay};
+ghost use Rattle.rule_days.specs.Inner.{anyOf};
 ghost use Rattle.markets.specs.Markets.{isMarket, isWeekend, isHoliday, isTradingDay};
+ghost use Rattle.markets.specs.Inner.{rules};
 use canada::holidays::is_canada_holiday;
 use gregorian::Date;
 use gregorian::SATURDAY;
@@ -44,10 +46,11 @@ pub fn is_weekend(n: u32) -> bool
     (weekday == SATURDAY) | (weekday == SUNDAY)
 }
 
-// The parts of a day one by one, so that they stay in registers; a struct would go through memory.
+// [month-first]: by the rules of the market that can fall in the month. A code that is no market's has none. The parts of the day are
+// handed over one by one, so that they stay in registers; a struct would go through memory.
 fn is_holiday_on(market: u32, number: u32, year: u32, month: u32, d: u32) -> bool
     requires { ⌜ SameDay (record { number = number; date = date year month d }) × (number ≤ lastDay) ⌝ }
-    ensures { λ r. ⌜ r ≡ isHoliday market number ⌝ }
+    ensures { λ r. ⌜ r ≡ anyOf month (rules market year number) ⌝ }
 {
     let date = Date {
         year,
@@ -64,7 +67,7 @@ fn is_holiday_on(market: u32, number: u32, year: u32, month: u32, d: u32) -> boo
     }
 }
 
-// [is-holiday]: a code that is no market's has no holidays.
+// [is-holiday]
 pub fn is_holiday(market: u32, day: CalendarDay) -> bool
     requires { ⌜ SameDay day × (day .number ≤ lastDay) ⌝ }
     ensures { λ r. ⌜ r ≡ isHoliday market (day .number) ⌝ }

@@ -4,7 +4,6 @@ use Prim.Native.Nat.{ℕ}
 use mathlib.Core.Path.{_≡_, ap, sym, _∙_}
 use mathlib.Core.Bool.{Bool}
 use Rattle.gregorian.specs.declared.days.CalendarDay.{CalendarDay}
-use Rattle.gregorian.specs.Calendar.{dateOf}
 use Rattle.gregorian.specs.Inner.{SameDay}
 use Rattle.utils.specs.declared.OptionalDay.{OptionalDay}
 use Rattle.utils.specs.declared.OptionalDay.the-variants.{Day}

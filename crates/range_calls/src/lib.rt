@@ -44,7 +44,7 @@ fn trading_day(year: u32, n: u32, neighbour: CalendarDay) -> TradingDay
     }
 }
 
-// Error 6 where there is none.
+// Error 6 where no day was found.
 fn trading_day_result(year: u32, n: u32, neighbour: Neighbour) -> TradingDayResult
     ensures { λ r. ⌜ r ≡ resultAt year n neighbour ⌝ }
 {

@@ -27,13 +27,6 @@ pub or-false : (a : Bool) → (a || false) ≡ a
 or-false true = refl
 or-false false = refl
 
-pub or-swap : (a b c : Bool) → (a || b || c) ≡ (a || c || b)
-or-swap true b c = refl
-or-swap false true true = refl
-or-swap false true false = refl
-or-swap false false true = refl
-or-swap false false false = refl
-
 -- what a list contains after an insertion
 contains-append : (ds : List ℕ) (d n : ℕ) → contains (ds ++ d ∷ []) n ≡ (contains ds n || eqb n d)
 unfolding contains

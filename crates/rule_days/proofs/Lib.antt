@@ -1,2 +1,2 @@
 pub mod DayLaws
-pub mod MonthLaws
+pub mod RuleMonths

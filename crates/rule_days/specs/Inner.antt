@@ -1,12 +1,41 @@
--- Inner: no exported contract and no claim rests on these. Days that a rule need not be asked about, and what functions of the rules
--- require of the months and days that the code writes out. Assumes nothing.
+-- Inner: no exported contract and no claim rests on these. The holiday rules by months [month-first], days that a rule need not be asked
+-- about, and days that every year has. Assumes nothing.
 use Prim.Native.Nat.{ℕ, zero, suc}
-use mathlib.Core.Bool.{Bool, true, _&&_, _||_}
-use mathlib.Core.List.{List}
+use mathlib.Core.Bool.{Bool, true, false, cond, _&&_, _||_}
+use mathlib.Core.List.{List, [], _∷_}
 use lib.Dec.{leb, eqb}
 use lib.ListN.{getD}
 use Rattle.gregorian.specs.Calendar.{monthLengths}
 use Rattle.gregorian.specs.declared.Date.{Date}
+
+-- ---- rules by months
+
+-- the months that the holiday of a rule can fall in, and whether it is the day that is asked about
+pub record Rule : Type 0 where
+  pub months : List ℕ
+  pub test : Bool
+
+-- a month is one of these
+abbrev pub isOneOf : List ℕ → ℕ → Bool
+isOneOf [] month = false
+isOneOf (m ∷ ms) month = eqb month m || isOneOf ms month
+
+-- a rule of one month, and one of two
+abbrev pub on : ℕ → Bool → Rule
+on month test = record { months = month ∷ []; test = test }
+
+abbrev pub onEither : ℕ → ℕ → Bool → Rule
+onEither month other test = record { months = month ∷ other ∷ []; test = test }
+
+-- whether the day is a holiday of the month, by its rules alone, or the test before them holds
+abbrev pub anyFrom : ℕ → Bool → List Rule → Bool
+anyFrom month before [] = before
+anyFrom month before (r ∷ rs) = anyFrom month (cond (isOneOf (r .months) month) (before || r .test) before) rs
+
+abbrev pub anyOf : ℕ → List Rule → Bool
+anyOf month rules = anyFrom month false rules
+
+-- ---- days
 
 -- day n is from `first` to `last`, both included
 abbrev pub isBetween : ℕ → ℕ → ℕ → Bool

@@ -1,5 +1,5 @@
-// Days that the rules of several markets share, each asked about a day of its own month: a day of the year, one that moves to
-// Monday, Good Friday.
+// Days that the rules of several markets share, each asked about a day of its own month: a day of the month, one that moves to Monday,
+// Good Friday. The month is written out for the reader, and required to be that of the day.
 ghost use mathlib.Core.Path.{_≡_};
 ghost use Prim.Native.Nat.{_+_, _≤_};
 ghost use lib.Dec.{eqb};
@@ -15,7 +15,7 @@ use gregorian::days::CalendarDay;
 use utils::OptionalDay;
 use utils::easter::calculate_good_friday;
 
-// Day d of the month, which is that of the day.
+// Day d of the month.
 pub fn fixed_day(day: CalendarDay, month: u32, d: u32) -> u32
     requires { ⌜ SameDay day × (day .number ≤ lastDay) × (day .date .month ≡ month) × (d ≤ 31) ⌝ }
     ensures { λ r. ⌜ (r ≡ dayNumber (day .date .year) month d) × (d ≤ r) × (r ≤ lastDay + 31) ⌝ }
@@ -35,7 +35,7 @@ fn adjust_for_weekend(n: u32) -> u32
     }
 }
 
-// Whether a day is day `first` of the month, which is its own, or one of the k days after that.
+// Whether a day is day `first` of the month or one of the k days after it.
 pub fn is_within(day: CalendarDay, month: u32, first: u32, k: u32) -> bool
     requires { ⌜ SameDay day × (day .date .month ≡ month) × (first ≤ 31) × (k ≤ 31) ⌝ }
     ensures { λ r. ⌜ (let from = dayNumber (day .date .year) month first in r ≡ isBetween from (from + k) (day .number)) ⌝ }
@@ -43,7 +43,8 @@ pub fn is_within(day: CalendarDay, month: u32, first: u32, k: u32) -> bool
     (first <= day.date.day) & (day.date.day <= first + k)
 }
 
-// Whether a day is day d of its month, or the Monday that this moves to. Only that day and the two after it are compared.
+// Whether a day is day d of the month or, from a weekend, the Monday that it moves to. Only that day and the two after it are
+// compared.
 pub fn is_observed(day: CalendarDay, month: u32, d: u32) -> bool
     requires { ⌜ SameDay day × (day .number ≤ lastDay) × (day .date .month ≡ month) × (d ≤ 31) ⌝ }
     ensures { λ r. ⌜ r ≡ eqb (day .number) (adjustForWeekend (dayNumber (day .date .year) month d)) ⌝ }

@@ -1,12 +1,12 @@
 -- `gregorian::day_number` meets its contract: in January and February, and from March on.
-use Prim.Native.Nat.{ℕ, _+_, _*_, _/_, _-_, _≤_}
-use mathlib.Core.Path.{_≡_, ap, sym, _∙_}
+use Prim.Native.Nat.{_+_, _*_, _/_, _-_, _≤_}
+use mathlib.Core.Path.{_≡_}
 use mathlib.Core.Logic.{⊎-elim}
 use native.Mathlib.Omega.{arith}
 use borrow.Author.Needs.{needs}
 use Rattle.gregorian.specs.Calendar.{dayNumber, lastDay}
 use Rattle.gregorian.specs.Inner.{IsDate}
-use Rattle.gregorian.proofs.Laws.{is-date, number-range}
+use Rattle.gregorian.proofs.Laws.{is-date}
 use Rattle.gregorian.proofs.Formulas.{InMarchYear, january, march, number-by-march}
 use Rattle.gregorian.proofs.day_number.Statement.{statement}
 use Rattle.gregorian.proofs.day_number.Tie as tie

@@ -1,13 +1,15 @@
 // The holidays of TSX, as src/markets/canada/holidays.rs has them: docs/SCOPE.md [tsx-holidays]. The month comes first
-// [month-first]: an arm computes the holidays that can fall in it alone.
+// [month-first]: an arm computes the holidays that can fall in it alone, those of a weekday on that weekday.
 ghost use mathlib.Core.Path.{_≡_};
 ghost use Prim.Native.Nat.{_≤_};
 ghost use lib.Dec.{eqb};
 ghost use Rattle.gregorian.specs.Calendar.{monday, lastDay};
 ghost use Rattle.gregorian.specs.Inner.{SameDay};
 ghost use Rattle.utils.specs.Weekday.{nthWeekdayOfMonth};
-ghost use Rattle.rule_days.specs.Days.{contains, isDay};
-ghost use Rattle.markets.specs.Canada.{familyDay, victoriaDay, boxingDay, getCanadaHolidays};
+ghost use Rattle.rule_days.specs.Days.{isDay};
+ghost use Rattle.rule_days.specs.Inner.{anyOf};
+ghost use Rattle.markets.specs.Canada.{familyDay, victoriaDay, boxingDay};
+ghost use Rattle.markets.specs.Inner.{canadaRules};
 use gregorian::MONDAY;
 use gregorian::SATURDAY;
 use gregorian::SUNDAY;
@@ -22,7 +24,7 @@ use utils::nth_weekday_of_month;
 // Whether a day is a holiday of its year. On Monday if on a weekend: 1 January, 1 July and 25 December.
 pub fn is_canada_holiday(day: CalendarDay) -> bool
     requires { ⌜ SameDay day × (day .number ≤ lastDay) ⌝ }
-    ensures { λ r. ⌜ r ≡ contains (getCanadaHolidays (day .date .year)) (day .number) ⌝ }
+    ensures { λ r. ⌜ r ≡ anyOf (day .date .month) (canadaRules (day .date .year) (day .number)) ⌝ }
 {
     let n = day.number;
     let month = day.date.month;
@@ -40,7 +42,7 @@ pub fn is_canada_holiday(day: CalendarDay) -> bool
     }
 }
 
-// The 3rd Monday of February, from 2008 on. On another weekday none of these is computed.
+// The 3rd Monday of February, from 2008 on.
 fn is_family_day(day: CalendarDay) -> bool
     ensures { λ r. ⌜ r ≡ isDay (familyDay (day .date .year)) (day .number) ⌝ }
 {

@@ -1,14 +1,14 @@
 // The holidays of LSE, as src/markets/uk/holidays.rs has them: docs/SCOPE.md [lse-holidays]. The month comes first [month-first]: an
-// arm computes the holidays that can fall in it alone.
+// arm computes the holidays that can fall in it alone, those of a weekday on that weekday.
 ghost use mathlib.Core.Path.{_≡_};
 ghost use Prim.Native.Nat.{_≤_};
 ghost use Rattle.gregorian.specs.Calendar.{monday, lastDay};
 ghost use Rattle.gregorian.specs.Inner.{SameDay};
 ghost use Rattle.utils.specs.Weekday.{nthWeekdayOfMonth, lastWeekdayOfMonth};
 ghost use Rattle.utils.specs.Easter.{calculateEasterMonday};
-ghost use Rattle.rule_days.specs.Days.{contains, isDay};
-ghost use Rattle.markets.specs.Uk.{getUkHolidays};
-ghost use Rattle.markets.specs.MonthFirst.{isChristmasOrBoxingDay};
+ghost use Rattle.rule_days.specs.Days.{isDay};
+ghost use Rattle.rule_days.specs.Inner.{anyOf};
+ghost use Rattle.markets.specs.Inner.{isChristmasOrBoxingDay, ukRules};
 use gregorian::FRIDAY;
 use gregorian::MONDAY;
 use gregorian::SATURDAY;
@@ -27,7 +27,7 @@ use utils::nth_weekday_of_month;
 // Whether a day is a holiday of its year. On Monday if on a weekend: 1 January.
 pub fn is_uk_holiday(day: CalendarDay) -> bool
     requires { ⌜ SameDay day × (day .number ≤ lastDay) ⌝ }
-    ensures { λ r. ⌜ r ≡ contains (getUkHolidays (day .date .year)) (day .number) ⌝ }
+    ensures { λ r. ⌜ r ≡ anyOf (day .date .month) (ukRules (day .date .year) (day .number)) ⌝ }
 {
     let month = day.date.month;
     match month {
@@ -54,7 +54,7 @@ fn is_easter_monday(day: CalendarDay) -> bool
     day.number == easter_monday
 }
 
-// The 1st Monday of May. On another weekday none of these is computed.
+// The 1st Monday of May.
 fn is_early_may_bank_holiday(day: CalendarDay) -> bool
     ensures { λ r. ⌜ r ≡ isDay (nthWeekdayOfMonth (day .date .year) 5 monday 1) (day .number) ⌝ }
 {

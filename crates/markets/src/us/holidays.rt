@@ -1,13 +1,15 @@
 // The holidays of NYSE and NASDAQ, as src/markets/us/holidays.rs has them: docs/SCOPE.md [us-holidays]. The month comes first
-// [month-first]: an arm computes the holidays that can fall in it alone.
+// [month-first]: an arm computes the holidays that can fall in it alone, those of a weekday on that weekday.
 ghost use mathlib.Core.Path.{_≡_};
 ghost use mathlib.Core.Bool.{_&&_};
 ghost use Prim.Native.Nat.{_≤_};
 ghost use lib.Dec.{leb, eqb};
 ghost use Rattle.gregorian.specs.Calendar.{lastDay};
 ghost use Rattle.gregorian.specs.Inner.{SameDay};
-ghost use Rattle.rule_days.specs.Days.{contains, isDay};
-ghost use Rattle.markets.specs.Us.{mlkDay, presidentsDay, memorialDay, independenceDay, laborDay, thanksgivingDay, juneteenth, getUsHolidays};
+ghost use Rattle.rule_days.specs.Days.{isDay};
+ghost use Rattle.rule_days.specs.Inner.{anyOf};
+ghost use Rattle.markets.specs.Us.{mlkDay, presidentsDay, memorialDay, independenceDay, laborDay, thanksgivingDay, juneteenth};
+ghost use Rattle.markets.specs.Inner.{usRules};
 use gregorian::MONDAY;
 use gregorian::SATURDAY;
 use gregorian::SUNDAY;
@@ -24,7 +26,7 @@ use utils::nth_weekday_of_month;
 // Whether a day is a holiday of its year. On Monday if on a weekend: 1 January and 25 December.
 pub fn is_us_holiday(day: CalendarDay) -> bool
     requires { ⌜ SameDay day × (day .number ≤ lastDay) ⌝ }
-    ensures { λ r. ⌜ r ≡ contains (getUsHolidays (day .date .year)) (day .number) ⌝ }
+    ensures { λ r. ⌜ r ≡ anyOf (day .date .month) (usRules (day .date .year) (day .number)) ⌝ }
 {
     let month = day.date.month;
     match month {
@@ -42,7 +44,7 @@ pub fn is_us_holiday(day: CalendarDay) -> bool
     }
 }
 
-// Martin Luther King Jr. Day: the 3rd Monday of January. On another weekday none of these is computed.
+// Martin Luther King Jr. Day: the 3rd Monday of January.
 fn is_mlk_day(day: CalendarDay) -> bool
     ensures { λ r. ⌜ r ≡ isDay (mlkDay (day .date .year)) (day .number) ⌝ }
 {
@@ -137,7 +139,6 @@ pub fn thanksgiving_day(year: u32) -> OptionalDay
     nth_weekday_of_month(year, 11, THURSDAY, 4)
 }
 
-// On a day but Thursday it is not computed.
 fn is_thanksgiving_day(day: CalendarDay) -> bool
     ensures { λ r. ⌜ r ≡ isDay (thanksgivingDay (day .date .year)) (day .number) ⌝ }
 {

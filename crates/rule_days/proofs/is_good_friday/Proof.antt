@@ -3,7 +3,7 @@ use mathlib.Core.Path.{sym, _∙_}
 use borrow.Author.Tests.{not-true}
 use borrow.Author.Needs.{needs}
 use Rattle.rule_days.proofs.DayLaws.{day-is, none-is}
-use Rattle.rule_days.proofs.MonthLaws.{good-friday-around, away-from-easter}
+use Rattle.rule_days.proofs.RuleMonths.{good-friday-around, away-from-easter}
 use Rattle.rule_days.proofs.is_good_friday.Statement.{statement}
 use Rattle.rule_days.proofs.is_good_friday.Tie as tie
 

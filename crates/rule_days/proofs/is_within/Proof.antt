@@ -1,6 +1,6 @@
 -- `rule_days::is_within` meets its contract: the days of a month and their numbers have one order.
 use borrow.Author.Needs.{needs}
-use Rattle.rule_days.proofs.MonthLaws.{same-within}
+use Rattle.rule_days.proofs.RuleMonths.{same-within}
 use Rattle.rule_days.proofs.is_within.Statement.{statement}
 use Rattle.rule_days.proofs.is_within.Tie as tie
 

@@ -1,9 +1,8 @@
 -- `trading_days::count` meets its contract: each turn of the loop is one day of the count.
-use Prim.Native.Nat.{ℕ, suc, _+_, _-_, _≤_, _<_}
+use Prim.Native.Nat.{ℕ, suc, _-_, _≤_, _<_}
 use mathlib.Core.Path.{_≡_, refl, sym, ap₂, _∙_}
 use mathlib.Core.Logic.{⊎-elim}
 use native.Mathlib.Omega.{arith}
-use borrow.Author.Needs.{needs}
 use Rattle.gregorian.specs.Calendar.{lastDay}
 use Rattle.gregorian.specs.Inner.{SameDay}
 use Rattle.markets.specs.Markets.{isTradingDay}

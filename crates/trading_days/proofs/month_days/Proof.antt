@@ -1,13 +1,13 @@
 -- `trading_days::month_days` meets its contract: each turn of the loop is one day of the month.
-use Prim.Native.Nat.{ℕ, suc, _+_, _-_, _≤_, _<_}
-use mathlib.Core.Path.{_≡_, refl, sym, ap, ap₂, _∙_}
+use Prim.Native.Nat.{ℕ, suc, _+_, _-_, _≤_}
+use mathlib.Core.Path.{_≡_, sym, ap, ap₂, _∙_}
 use mathlib.Core.Bool.{Bool}
 use mathlib.Core.List.{List, _++_}
 use mathlib.Core.Logic.{⊎-elim}
 use lib.ListN.{length, take, set, length-set}
 use native.Mathlib.Omega.{arith}
 use borrow.Author.Needs.{needs}
-use Rattle.gregorian.specs.Calendar.{lastDay, monthLength, isDate, dayNumber}
+use Rattle.gregorian.specs.Calendar.{dayNumber}
 use Rattle.gregorian.specs.Inner.{SameDay}
 use Rattle.gregorian.proofs.Laws.{is-date, number-range}
 use Rattle.gregorian.proofs.Formulas.{month-high}

@@ -1,5 +1,4 @@
 -- `gregorian::days::calendar_day` meets its contract: a date and its number.
-use borrow.Author.Needs.{needs}
 use Rattle.gregorian.proofs.DaySteps.{same-day}
 use Rattle.gregorian.proofs.days.calendar_day.Statement.{statement}
 use Rattle.gregorian.proofs.days.calendar_day.Tie as tie

@@ -5,7 +5,7 @@ use lib.Dec.{eqb}
 use borrow.Author.Tests.{not-true}
 use borrow.Author.Needs.{needs}
 use Rattle.gregorian.specs.Calendar.{tuesday, thursday, sunday, weekdayOf}
-use Rattle.japan.specs.JapanMonths.{isBridgeDay}
+use Rattle.japan.specs.Inner.{isBridgeDay}
 use Rattle.japan.proofs.JapanLaws.{not-bridge-day}
 use Rattle.japan.proofs.holidays.is_bridge_day.Statement.{statement}
 use Rattle.japan.proofs.holidays.is_bridge_day.Tie as tie

@@ -2,7 +2,7 @@
 use Prim.Native.Nat.{ℕ}
 use mathlib.Core.Path.{ap, _∙_}
 use borrow.Author.Needs.{needs}
-use Rattle.japan.specs.JapanMonths.{isWithSubstitute}
+use Rattle.japan.specs.Inner.{isWithSubstitute}
 use Rattle.japan.proofs.holidays.is_fixed_holiday.Statement.{statement}
 use Rattle.japan.proofs.holidays.is_fixed_holiday.Tie as tie
 

@@ -1,26 +1,21 @@
 -- `japan::holidays::is_japan_holiday` meets its contract: each month has its rules.
 use Prim.Native.Nat.{ℕ}
-use mathlib.Core.Path.{_≡_, refl, ap, _∙_}
+use mathlib.Core.Path.{_≡_, refl, ap, sym, _∙_}
 use mathlib.Core.Bool.{_||_}
 use mathlib.Core.List.{[], _∷_}
 use lib.Dec.{eqb}
 use borrow.Author.Needs.{needs}
 use Rattle.gregorian.proofs.Tests.{every}
-use Rattle.rule_days.specs.Days.{contains}
-use Rattle.rule_days.specs.Months.{anyOf}
-use Rattle.rule_days.proofs.MonthLaws.{month-range, in-arm, no-holiday}
-use Rattle.japan.specs.Japan.{getJapanHolidays}
-use Rattle.japan.specs.JapanMonths.{japanRules}
-use Rattle.japan.proofs.JapanLaws.{japan-by-month}
+use Rattle.rule_days.specs.Inner.{anyOf}
+use Rattle.rule_days.proofs.RuleMonths.{month-range, no-holiday}
+use Rattle.japan.specs.Inner.{japanRules}
 use Rattle.japan.proofs.holidays.is_japan_holiday.Statement.{statement}
 use Rattle.japan.proofs.holidays.is_japan_holiday.Tie as tie
 
 -- the rules of month m, which is that of the day
 of-month : (c : tie.Start) (m : ℕ) → c .args .day .date .month ≡ m
-    → (let day = c .args .day in anyOf m (japanRules (day .date .year) (day .number)) ≡ contains (getJapanHolidays (day .date .year)) (day .number))
-of-month c m e =
-    let day = c .args .day in
-    in-arm (japanRules (day .date .year) (day .number)) _ m _ (japan-by-month day (c .pre .0) (c .pre .1)) e
+    → (let day = c .args .day in let rules = japanRules (day .date .year) (day .number) in anyOf m rules ≡ anyOf (day .date .month) rules)
+of-month c m e = let day = c .args .day in ap (λ (i : ℕ). anyOf i (japanRules (day .date .year) (day .number))) (sym e)
 
 returns : tie.Need-returns
 returns c =
@@ -76,7 +71,6 @@ returns-12 c =
     let day = s .args .day in
     no-holiday (12 ∷ 11 ∷ 10 ∷ 9 ∷ 8 ∷ 7 ∷ 5 ∷ 4 ∷ 3 ∷ 2 ∷ 1 ∷ []) (japanRules (day .date .year) (day .number)) (day .date .month) refl
     (month-range day (s .pre .0) (s .pre .1)) (c .match .rest)
-    ∙ of-month s (day .date .month) refl
 
 pub is-japan-holiday-spec : {M : Type 1} → statement M
 is-japan-holiday-spec =

@@ -8,7 +8,7 @@ use borrow.Author.Needs.{needs}
 use Rattle.gregorian.specs.Calendar.{sunday, weekdayOf}
 use Rattle.gregorian.proofs.Tests.{and-true, and-false}
 use Rattle.rule_days.proofs.DayLaws.{or-false}
-use Rattle.japan.specs.JapanMonths.{isWithSubstitute}
+use Rattle.japan.specs.Inner.{isWithSubstitute}
 use Rattle.japan.proofs.holidays.is_with_substitute.Statement.{statement}
 use Rattle.japan.proofs.holidays.is_with_substitute.Tie as tie
 

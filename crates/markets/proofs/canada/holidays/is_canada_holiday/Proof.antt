@@ -6,21 +6,16 @@ use mathlib.Core.List.{[], _∷_}
 use lib.Dec.{eqb}
 use borrow.Author.Needs.{needs}
 use Rattle.gregorian.proofs.Tests.{every}
-use Rattle.rule_days.specs.Days.{contains}
-use Rattle.rule_days.specs.Months.{anyOf}
-use Rattle.rule_days.proofs.MonthLaws.{month-range, in-arm, no-holiday}
-use Rattle.markets.specs.Canada.{getCanadaHolidays}
-use Rattle.markets.specs.MonthFirst.{canadaRules}
-use Rattle.markets.proofs.CanadaLaws.{canada-by-month}
+use Rattle.rule_days.specs.Inner.{anyOf}
+use Rattle.rule_days.proofs.RuleMonths.{month-range, no-holiday}
+use Rattle.markets.specs.Inner.{canadaRules}
 use Rattle.markets.proofs.canada.holidays.is_canada_holiday.Statement.{statement}
 use Rattle.markets.proofs.canada.holidays.is_canada_holiday.Tie as tie
 
 -- the rules of month m, which is that of the day
 of-month : (c : tie.Start) (m : ℕ) → c .args .day .date .month ≡ m
-    → (let day = c .args .day in anyOf m (canadaRules (day .date .year) (day .number)) ≡ contains (getCanadaHolidays (day .date .year)) (day .number))
-of-month c m e =
-    let day = c .args .day in
-    in-arm (canadaRules (day .date .year) (day .number)) _ m _ (canada-by-month day (c .pre .0) (c .pre .1)) e
+    → (let day = c .args .day in let rules = canadaRules (day .date .year) (day .number) in anyOf m rules ≡ anyOf (day .date .month) rules)
+of-month c m e = let day = c .args .day in ap (λ (i : ℕ). anyOf i (canadaRules (day .date .year) (day .number))) (sym e)
 
 returns : tie.Need-returns
 returns c = let arm = c .before in c .is-observed .ensures ∙ of-month (arm .before) 1 (arm .match .keys1)
@@ -57,7 +52,6 @@ returns-10 c =
     let day = s .args .day in
     no-holiday (12 ∷ 10 ∷ 9 ∷ 7 ∷ 5 ∷ 4 ∷ 3 ∷ 2 ∷ 1 ∷ []) (canadaRules (day .date .year) (day .number)) (day .date .month) refl
     (month-range day (s .pre .0) (s .pre .1)) (c .match .rest)
-    ∙ of-month s (day .date .month) refl
 
 pub is-canada-holiday-spec : {M : Type 1} → statement M
 is-canada-holiday-spec =

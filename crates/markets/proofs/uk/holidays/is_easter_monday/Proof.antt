@@ -3,7 +3,7 @@ use mathlib.Core.Path.{sym, _∙_}
 use borrow.Author.Tests.{not-true}
 use borrow.Author.Needs.{needs}
 use Rattle.rule_days.proofs.DayLaws.{day-is, none-is}
-use Rattle.rule_days.proofs.MonthLaws.{easter-monday-around, away-from-easter}
+use Rattle.rule_days.proofs.RuleMonths.{easter-monday-around, away-from-easter}
 use Rattle.markets.proofs.uk.holidays.is_easter_monday.Statement.{statement}
 use Rattle.markets.proofs.uk.holidays.is_easter_monday.Tie as tie
 

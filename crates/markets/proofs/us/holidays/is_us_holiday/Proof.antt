@@ -1,25 +1,20 @@
 -- `markets::us::holidays::is_us_holiday` meets its contract: each month has its rules.
 use Prim.Native.Nat.{ℕ}
-use mathlib.Core.Path.{_≡_, refl, sym, _∙_}
+use mathlib.Core.Path.{_≡_, refl, ap, sym, _∙_}
 use mathlib.Core.Bool.{_||_}
 use mathlib.Core.List.{[], _∷_}
 use borrow.Author.Needs.{needs}
 use Rattle.gregorian.proofs.Tests.{every}
-use Rattle.rule_days.specs.Days.{contains}
-use Rattle.rule_days.specs.Months.{anyOf}
-use Rattle.rule_days.proofs.MonthLaws.{month-range, in-arm, no-holiday}
-use Rattle.markets.specs.Us.{getUsHolidays}
-use Rattle.markets.specs.MonthFirst.{usRules}
-use Rattle.markets.proofs.UsLaws.{us-by-month}
+use Rattle.rule_days.specs.Inner.{anyOf}
+use Rattle.rule_days.proofs.RuleMonths.{month-range, no-holiday}
+use Rattle.markets.specs.Inner.{usRules}
 use Rattle.markets.proofs.us.holidays.is_us_holiday.Statement.{statement}
 use Rattle.markets.proofs.us.holidays.is_us_holiday.Tie as tie
 
 -- the rules of month m, which is that of the day
 of-month : (c : tie.Start) (m : ℕ) → c .args .day .date .month ≡ m
-    → (let day = c .args .day in anyOf m (usRules (day .date .year) (day .number)) ≡ contains (getUsHolidays (day .date .year)) (day .number))
-of-month c m e =
-    let day = c .args .day in
-    in-arm (usRules (day .date .year) (day .number)) _ m _ (us-by-month day (c .pre .0) (c .pre .1)) e
+    → (let day = c .args .day in let rules = usRules (day .date .year) (day .number) in anyOf m rules ≡ anyOf (day .date .month) rules)
+of-month c m e = let day = c .args .day in ap (λ (i : ℕ). anyOf i (usRules (day .date .year) (day .number))) (sym e)
 
 returns : tie.Need-returns
 returns c = let arm = c .before .before in (λ j. c .before .is-observed .ensures j || c .is-mlk-day .ensures j) ∙ of-month (arm .before) 1 (arm .match .keys1)
@@ -59,7 +54,6 @@ returns-11 c =
     let day = s .args .day in
     no-holiday (12 ∷ 11 ∷ 9 ∷ 7 ∷ 6 ∷ 5 ∷ 4 ∷ 3 ∷ 2 ∷ 1 ∷ []) (usRules (day .date .year) (day .number)) (day .date .month) refl
     (month-range day (s .pre .0) (s .pre .1)) (c .match .rest)
-    ∙ of-month s (day .date .month) refl
 
 pub is-us-holiday-spec : {M : Type 1} → statement M
 is-us-holiday-spec =

@@ -1,4 +1,5 @@
--- The holidays of TSE by the months that they can fall in: docs/SCOPE.md [month-first], [tse-holidays]. Assumes nothing.
+-- Inner: no exported contract and no claim rests on these. The holidays of TSE by the months that they can fall in [month-first], by a
+-- shorter account of docs/SCOPE.md [tse-holidays]. Assumes nothing.
 use Prim.Native.Nat.{ℕ, _+_}
 use mathlib.Core.Bool.{Bool, false, _&&_, _||_}
 use mathlib.Core.List.{List, [], _∷_}
@@ -8,7 +9,7 @@ use Rattle.utils.specs.declared.OptionalDay.{OptionalDay}
 use Rattle.utils.specs.declared.OptionalDay.the-variants.{Day, None}
 use Rattle.utils.specs.Weekday.{nthWeekdayOfMonth}
 use Rattle.rule_days.specs.Days.{isDay}
-use Rattle.rule_days.specs.Months.{Rule, on}
+use Rattle.rule_days.specs.Inner.{Rule, on}
 use Rattle.japan.specs.Japan.{calculateVernalEquinox, calculateAutumnalEquinox}
 
 -- [tse-substitute]: n is the date or, if that is a Sunday, the day after it
@@ -19,14 +20,15 @@ abbrev pub isDayWithSubstitute : OptionalDay → ℕ → Bool
 isDayWithSubstitute (Day date) n = isWithSubstitute date n
 isDayWithSubstitute None n = false
 
--- [tse-golden-week]: 2 May if the 3rd is a Tuesday; 6 May if the 5th is a Thursday or the 4th a Sunday
+-- [tse-golden-week]: 2 May if the 3rd is a Tuesday; 6 May if the 5th is a Thursday or the 4th a Sunday. Where the Rust adds 6 May for a
+-- Sunday the 5th, that is already its substitute.
 unfoldable pub isBridgeDay : ℕ → ℕ → Bool
 isBridgeDay year n =
     eqb (weekdayOf (dayNumber year 5 3)) tuesday && eqb n (dayNumber year 5 2)
     || eqb (weekdayOf (dayNumber year 5 5)) thursday && eqb n (dayNumber year 5 6)
     || eqb (weekdayOf (dayNumber year 5 4)) sunday && eqb n (dayNumber year 5 6)
 
--- whether day n is a holiday of the year, in the order of getJapanHolidays
+-- whether day n is a holiday of the year, by the insertions of getJapanHolidays in their order
 abbrev pub japanRules : ℕ → ℕ → List Rule
 japanRules year n =
     on 1 (isWithSubstitute (dayNumber year 1 1) n)

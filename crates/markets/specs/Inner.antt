@@ -1,22 +1,20 @@
--- The holidays of each market by the months that they can fall in, and the claim that a day tested by those of its month alone is
--- tested as by the whole year's: docs/SCOPE.md [month-first]. Assumes nothing.
+-- Inner: no exported contract and no claim rests on these. The holidays of each market by the months that they can fall in
+-- [month-first]. Assumes nothing.
 use Prim.Native.Nat.{ℕ, _+_}
-use mathlib.Core.Path.{_≡_}
-use mathlib.Core.Bool.{Bool, true, cond, _&&_, _||_}
+use mathlib.Core.Bool.{Bool, cond, _&&_, _||_}
 use mathlib.Core.List.{List, [], _∷_}
 use lib.Dec.{leb, eqb}
 use lib.ListN.{getD}
-use Rattle.gregorian.specs.Calendar.{monday, friday, saturday, sunday, isDate, dayNumber, weekdayOf}
+use Rattle.gregorian.specs.Calendar.{monday, friday, saturday, sunday, dayNumber, weekdayOf}
 use Rattle.utils.specs.Weekday.{nthWeekdayOfMonth, lastWeekdayOfMonth}
 use Rattle.utils.specs.Easter.{calculateGoodFriday, calculateEasterMonday}
-use Rattle.rule_days.specs.Days.{contains, isDay, adjustForWeekend}
-use Rattle.rule_days.specs.Months.{Rule, on, onEither, anyOf}
-use Rattle.japan.specs.JapanMonths.{japanRules}
+use Rattle.rule_days.specs.Days.{isDay, adjustForWeekend}
+use Rattle.rule_days.specs.Inner.{Rule, on, onEither}
+use Rattle.japan.specs.Inner.{japanRules}
 use Rattle.markets.specs.Us.{newYearsDay, mlkDay, presidentsDay, memorialDay, independenceDay, laborDay, thanksgivingDay, juneteenth, christmasDay}
 use Rattle.markets.specs.Canada.{familyDay, victoriaDay, boxingDay}
-use Rattle.markets.specs.Markets.{holidays}
 
--- whether day n is a holiday of the year, by each insertion of getUsHolidays
+-- whether day n is a holiday of the year, by the insertions of getUsHolidays in their order
 abbrev pub usRules : ℕ → ℕ → List Rule
 usRules year n =
     on 1 (eqb n (newYearsDay year))
@@ -43,7 +41,7 @@ isOneOfTwo n christmas weekday =
 unfoldable pub isChristmasOrBoxingDay : ℕ → ℕ → Bool
 isChristmasOrBoxingDay year n = let christmas = dayNumber year 12 25 in isOneOfTwo n christmas (weekdayOf christmas)
 
--- by getUkHolidays
+-- by those of getUkHolidays, its three days of December together
 abbrev pub ukRules : ℕ → ℕ → List Rule
 ukRules year n =
     on 1 (eqb n (adjustForWeekend (dayNumber year 1 1)))
@@ -55,7 +53,7 @@ ukRules year n =
     ∷ on 12 (isChristmasOrBoxingDay year n)
     ∷ []
 
--- by getCanadaHolidays
+-- by those of getCanadaHolidays
 abbrev pub canadaRules : ℕ → ℕ → List Rule
 canadaRules year n =
     on 1 (eqb n (adjustForWeekend (dayNumber year 1 1)))
@@ -75,10 +73,3 @@ rulesByCode = usRules ∷ usRules ∷ ukRules ∷ japanRules ∷ canadaRules ∷
 
 abbrev pub rules : ℕ → ℕ → ℕ → List Rule
 rules market = getD rulesByCode market (λ year n. [])
-
--- the claim: for every code and every date of years 1 to 9999, asking the rules that can fall in its month, and no other, answers as
--- membership in the whole year's holidays
-abbrev pub MonthFirst : Type 0
-MonthFirst =
-    (market y m d : ℕ) → isDate y m d ≡ true
-    → (let n = dayNumber y m d in anyOf m (rules market y n) ≡ contains (holidays market y) n)

@@ -12,7 +12,7 @@ use Rattle.gregorian.specs.Calendar.{monthLength, total, dayNumber, lastYear, l
 use Rattle.gregorian.specs.declared.Date.{Date}
 use Rattle.gregorian.specs.declared.days.CalendarDay.{CalendarDay}
 use Rattle.gregorian.specs.Inner.{Exists, SameDay}
-use Rattle.gregorian.proofs.Tests.{and-left, and-right, and-false, every, every-at}
+use Rattle.gregorian.proofs.Tests.{and-left, and-right, every, every-at}
 use Rattle.gregorian.proofs.Laws.{days-on, is-date, date-by, by-number}
 use Rattle.gregorian.proofs.DaySteps.{is-date-of, number-is}
 use Rattle.utils.specs.declared.OptionalDay.{OptionalDay}
@@ -22,8 +22,7 @@ use Rattle.utils.proofs.WeekdayLaws.{nth-weekday, last-weekday}
 use Rattle.utils.specs.Easter.{easter, calculateEaster, calculateGoodFriday, calculateEasterMonday}
 use Rattle.utils.proofs.EasterLaws.{easter-range, easter-found}
 use Rattle.rule_days.specs.Days.{isDay, adjustForWeekend}
-use Rattle.rule_days.specs.Months.{Rule, isOneOf, anyFrom, anyOf}
-use Rattle.rule_days.specs.Inner.{isBetween, isAroundEaster, everyYearHas}
+use Rattle.rule_days.specs.Inner.{Rule, isOneOf, anyFrom, anyOf, isBetween, isAroundEaster, everyYearHas}
 use Rattle.rule_days.proofs.DayLaws.{or-false, not-between, not-observed, every-year-date}
 
 -- ---- all rules of a year, and those of a month
@@ -58,10 +57,6 @@ module _ (month : ℕ) where
   by-month before (r ∷ rs) h =
       by-month (before || r .test) rs (h .1)
       ∙ ap (λ (t : Bool). anyFrom month t rs) (asked before (r .test) (isOneOf (r .months) month) (h .0))
-
--- the arm of month m, which is that of the day
-pub in-arm : (rules : List Rule) (month m : ℕ) (holiday : Bool) → holiday ≡ anyOf month rules → month ≡ m → anyOf m rules ≡ holiday
-in-arm rules month m holiday e k = sym (e ∙ ap (λ (i : ℕ). anyOf i rules) k)
 
 -- ---- the month of a rule
 
