@@ -143,7 +143,7 @@ pub record CheckedRange (start end : Date) (a b : ℕ) : Type 0 where
   pub start-year : minYear ≤ start .year
   pub end-year : end .year ≤ maxYear
   pub same : SameDay (record { number = a; date = start })
-  pub end-high : b ≤ lastDay
+  pub in-years : (a ≤ lastDay) × (b ≤ lastDay)
 
 module _ (start end : Date) where
   pub range-passes : isDateOf start ≡ true → isDateOf end ≡ true → minYear ≤ start .year → end .year ≤ maxYear → checkedRange start end ≡ RangeResult.Ok (number start) (number end)
@@ -173,7 +173,7 @@ module _ (start end : Date) where
         start-year = ltb-false (start .year) minYear (years .0);
         end-year = ltb-false maxYear (end .year) (years .1);
         same = same-day (start .year) (start .month) (start .day) a s i;
-        end-high = omega (arith, k, number-range (end .year) (end .month) (end .day) e);
+        in-years = (omega (arith, i, number-range (start .year) (start .month) (start .day) s), omega (arith, k, number-range (end .year) (end .month) (end .day) e));
       }
 
 -- ---- a buffer

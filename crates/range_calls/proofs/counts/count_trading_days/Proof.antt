@@ -1,6 +1,7 @@
 -- `range_calls::counts::count_trading_days` meets its contract.
 use mathlib.Core.Path.{_≡_, ap, sym, _∙_}
 use mathlib.Core.Bool.{true}
+use native.Mathlib.Omega.{arith}
 use borrow.Author.Tests.{not-true, not-false}
 use borrow.Author.Needs.{needs}
 use Rattle.gregorian.specs.Calendar.{date}
@@ -24,7 +25,7 @@ returns : tie.Need-returns
 returns c = simp (sym (c .before .is-market .ensures) ∙ not-true _ (c .if1 .taken))
 
 count-requires : tie.Need-count-requires
-count-requires c κs = let r = range-checked _ _ _ _ (sym (range (c .before))) in (r .same, r .end-high)
+count-requires c κs = let r = range-checked _ _ _ _ (sym (range (c .before))) in (r .same, omega (arith, r .in-years))
 
 returns-2 : tie.Need-returns-2
 returns-2 c =
