@@ -18,8 +18,8 @@ use gregorian::TUESDAY;
 use gregorian::days::CalendarDay;
 use rule_days::fixed_day;
 use rule_days::is_within;
+use rule_days::nth_weekday_for;
 use utils::OptionalDay;
-use utils::nth_weekday_of_month;
 
 // [tse-equinox]: the days of March and of September in the years 2020 to 2030.
 const VERNAL_DAYS: [u32; 11] = [20, 20, 21, 21, 20, 20, 20, 21, 20, 20, 20];
@@ -118,11 +118,7 @@ fn is_bridge_day(day: CalendarDay) -> bool
 fn is_coming_of_age_day(day: CalendarDay) -> bool
     ensures { λ r. ⌜ r ≡ isDay (nthWeekdayOfMonth (day .date .year) 1 monday 2) (day .number) ⌝ }
 {
-    if gregorian::weekday(day.number) != MONDAY {
-        return false;
-    }
-    let OptionalDay::Day(coming_of_age_day) = nth_weekday_of_month(day.date.year, 1, MONDAY, 2)
-    else {
+    let OptionalDay::Day(coming_of_age_day) = nth_weekday_for(day, 1, MONDAY, 2) else {
         return false;
     };
     day.number == coming_of_age_day
@@ -132,10 +128,7 @@ fn is_coming_of_age_day(day: CalendarDay) -> bool
 fn is_marine_day(day: CalendarDay) -> bool
     ensures { λ r. ⌜ r ≡ isDay (nthWeekdayOfMonth (day .date .year) 7 monday 3) (day .number) ⌝ }
 {
-    if gregorian::weekday(day.number) != MONDAY {
-        return false;
-    }
-    let OptionalDay::Day(marine_day) = nth_weekday_of_month(day.date.year, 7, MONDAY, 3) else {
+    let OptionalDay::Day(marine_day) = nth_weekday_for(day, 7, MONDAY, 3) else {
         return false;
     };
     day.number == marine_day
@@ -145,11 +138,7 @@ fn is_marine_day(day: CalendarDay) -> bool
 fn is_respect_for_aged_day(day: CalendarDay) -> bool
     ensures { λ r. ⌜ r ≡ isDay (nthWeekdayOfMonth (day .date .year) 9 monday 3) (day .number) ⌝ }
 {
-    if gregorian::weekday(day.number) != MONDAY {
-        return false;
-    }
-    let OptionalDay::Day(respect_for_aged_day) = nth_weekday_of_month(day.date.year, 9, MONDAY, 3)
-    else {
+    let OptionalDay::Day(respect_for_aged_day) = nth_weekday_for(day, 9, MONDAY, 3) else {
         return false;
     };
     day.number == respect_for_aged_day
@@ -159,10 +148,7 @@ fn is_respect_for_aged_day(day: CalendarDay) -> bool
 fn is_health_and_sports_day(day: CalendarDay) -> bool
     ensures { λ r. ⌜ r ≡ isDay (nthWeekdayOfMonth (day .date .year) 10 monday 2) (day .number) ⌝ }
 {
-    if gregorian::weekday(day.number) != MONDAY {
-        return false;
-    }
-    let OptionalDay::Day(sports_day) = nth_weekday_of_month(day.date.year, 10, MONDAY, 2) else {
+    let OptionalDay::Day(sports_day) = nth_weekday_for(day, 10, MONDAY, 2) else {
         return false;
     };
     day.number == sports_day

@@ -18,8 +18,8 @@ use rule_days::fixed_day;
 use rule_days::is_good_friday;
 use rule_days::is_observed;
 use rule_days::is_within;
+use rule_days::nth_weekday_for;
 use utils::OptionalDay;
-use utils::nth_weekday_of_month;
 
 // Whether a day is a holiday of its year. On Monday if on a weekend: 1 January, 1 July and 25 December.
 pub fn is_canada_holiday(day: CalendarDay) -> bool
@@ -50,10 +50,7 @@ fn is_family_day(day: CalendarDay) -> bool
     if year < 2008 {
         return false;
     }
-    if gregorian::weekday(day.number) != MONDAY {
-        return false;
-    }
-    let OptionalDay::Day(family_day) = nth_weekday_of_month(year, 2, MONDAY, 3) else {
+    let OptionalDay::Day(family_day) = nth_weekday_for(day, 2, MONDAY, 3) else {
         return false;
     };
     day.number == family_day
@@ -71,10 +68,7 @@ fn victoria_day(day: CalendarDay) -> u32
 fn is_labour_day(day: CalendarDay) -> bool
     ensures { λ r. ⌜ r ≡ isDay (nthWeekdayOfMonth (day .date .year) 9 monday 1) (day .number) ⌝ }
 {
-    if gregorian::weekday(day.number) != MONDAY {
-        return false;
-    }
-    let OptionalDay::Day(labour_day) = nth_weekday_of_month(day.date.year, 9, MONDAY, 1) else {
+    let OptionalDay::Day(labour_day) = nth_weekday_for(day, 9, MONDAY, 1) else {
         return false;
     };
     day.number == labour_day
@@ -84,10 +78,7 @@ fn is_labour_day(day: CalendarDay) -> bool
 fn is_thanksgiving(day: CalendarDay) -> bool
     ensures { λ r. ⌜ r ≡ isDay (nthWeekdayOfMonth (day .date .year) 10 monday 2) (day .number) ⌝ }
 {
-    if gregorian::weekday(day.number) != MONDAY {
-        return false;
-    }
-    let OptionalDay::Day(thanksgiving) = nth_weekday_of_month(day.date.year, 10, MONDAY, 2) else {
+    let OptionalDay::Day(thanksgiving) = nth_weekday_for(day, 10, MONDAY, 2) else {
         return false;
     };
     day.number == thanksgiving

@@ -19,10 +19,10 @@ use rule_days::is_around_easter;
 use rule_days::is_good_friday;
 use rule_days::is_observed;
 use rule_days::is_within;
+use rule_days::last_weekday_for;
+use rule_days::nth_weekday_for;
 use utils::OptionalDay;
 use utils::easter::calculate_easter_monday;
-use utils::last_weekday_of_month;
-use utils::nth_weekday_of_month;
 
 // Whether a day is a holiday of its year. On Monday if on a weekend: 1 January.
 pub fn is_uk_holiday(day: CalendarDay) -> bool
@@ -58,10 +58,7 @@ fn is_easter_monday(day: CalendarDay) -> bool
 fn is_early_may_bank_holiday(day: CalendarDay) -> bool
     ensures { λ r. ⌜ r ≡ isDay (nthWeekdayOfMonth (day .date .year) 5 monday 1) (day .number) ⌝ }
 {
-    if gregorian::weekday(day.number) != MONDAY {
-        return false;
-    }
-    let OptionalDay::Day(early_may) = nth_weekday_of_month(day.date.year, 5, MONDAY, 1) else {
+    let OptionalDay::Day(early_may) = nth_weekday_for(day, 5, MONDAY, 1) else {
         return false;
     };
     day.number == early_may
@@ -71,10 +68,7 @@ fn is_early_may_bank_holiday(day: CalendarDay) -> bool
 fn is_spring_bank_holiday(day: CalendarDay) -> bool
     ensures { λ r. ⌜ r ≡ isDay (lastWeekdayOfMonth (day .date .year) 5 monday) (day .number) ⌝ }
 {
-    if gregorian::weekday(day.number) != MONDAY {
-        return false;
-    }
-    let OptionalDay::Day(spring) = last_weekday_of_month(day.date.year, 5, MONDAY) else {
+    let OptionalDay::Day(spring) = last_weekday_for(day, 5, MONDAY) else {
         return false;
     };
     day.number == spring
@@ -84,10 +78,7 @@ fn is_spring_bank_holiday(day: CalendarDay) -> bool
 fn is_summer_bank_holiday(day: CalendarDay) -> bool
     ensures { λ r. ⌜ r ≡ isDay (lastWeekdayOfMonth (day .date .year) 8 monday) (day .number) ⌝ }
 {
-    if gregorian::weekday(day.number) != MONDAY {
-        return false;
-    }
-    let OptionalDay::Day(summer) = last_weekday_of_month(day.date.year, 8, MONDAY) else {
+    let OptionalDay::Day(summer) = last_weekday_for(day, 8, MONDAY) else {
         return false;
     };
     day.number == summer

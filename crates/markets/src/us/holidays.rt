@@ -19,8 +19,9 @@ use rule_days::fixed_day;
 use rule_days::is_good_friday;
 use rule_days::is_observed;
 use rule_days::is_within;
+use rule_days::last_weekday_for;
+use rule_days::nth_weekday_for;
 use utils::OptionalDay;
-use utils::last_weekday_of_month;
 use utils::nth_weekday_of_month;
 
 // Whether a day is a holiday of its year. On Monday if on a weekend: 1 January and 25 December.
@@ -48,10 +49,7 @@ pub fn is_us_holiday(day: CalendarDay) -> bool
 fn is_mlk_day(day: CalendarDay) -> bool
     ensures { λ r. ⌜ r ≡ isDay (mlkDay (day .date .year)) (day .number) ⌝ }
 {
-    if gregorian::weekday(day.number) != MONDAY {
-        return false;
-    }
-    let OptionalDay::Day(mlk_day) = nth_weekday_of_month(day.date.year, 1, MONDAY, 3) else {
+    let OptionalDay::Day(mlk_day) = nth_weekday_for(day, 1, MONDAY, 3) else {
         return false;
     };
     day.number == mlk_day
@@ -61,10 +59,7 @@ fn is_mlk_day(day: CalendarDay) -> bool
 fn is_presidents_day(day: CalendarDay) -> bool
     ensures { λ r. ⌜ r ≡ isDay (presidentsDay (day .date .year)) (day .number) ⌝ }
 {
-    if gregorian::weekday(day.number) != MONDAY {
-        return false;
-    }
-    let OptionalDay::Day(presidents_day) = nth_weekday_of_month(day.date.year, 2, MONDAY, 3) else {
+    let OptionalDay::Day(presidents_day) = nth_weekday_for(day, 2, MONDAY, 3) else {
         return false;
     };
     day.number == presidents_day
@@ -74,10 +69,7 @@ fn is_presidents_day(day: CalendarDay) -> bool
 fn is_memorial_day(day: CalendarDay) -> bool
     ensures { λ r. ⌜ r ≡ isDay (memorialDay (day .date .year)) (day .number) ⌝ }
 {
-    if gregorian::weekday(day.number) != MONDAY {
-        return false;
-    }
-    let OptionalDay::Day(memorial_day) = last_weekday_of_month(day.date.year, 5, MONDAY) else {
+    let OptionalDay::Day(memorial_day) = last_weekday_for(day, 5, MONDAY) else {
         return false;
     };
     day.number == memorial_day
@@ -123,10 +115,7 @@ fn is_independence_day(day: CalendarDay) -> bool
 fn is_labor_day(day: CalendarDay) -> bool
     ensures { λ r. ⌜ r ≡ isDay (laborDay (day .date .year)) (day .number) ⌝ }
 {
-    if gregorian::weekday(day.number) != MONDAY {
-        return false;
-    }
-    let OptionalDay::Day(labor_day) = nth_weekday_of_month(day.date.year, 9, MONDAY, 1) else {
+    let OptionalDay::Day(labor_day) = nth_weekday_for(day, 9, MONDAY, 1) else {
         return false;
     };
     day.number == labor_day
