@@ -46,8 +46,8 @@ pub fn is_weekend(n: u32) -> bool
     (weekday == SATURDAY) | (weekday == SUNDAY)
 }
 
-// [month-first]: by the rules of the market that can fall in the month. A code that is no market's has none. The parts of the day are
-// handed over one by one, so that they stay in registers; a struct would go through memory.
+// [month-first]: by the rules of the market that can fall in the month. A code that is no market's has none. It stays a call, and is
+// given the parts of the day one by one: a struct would go through memory.
 fn is_holiday_on(market: u32, number: u32, year: u32, month: u32, d: u32) -> bool
     requires { ⌜ SameDay (record { number = number; date = date year month d }) × (number ≤ lastDay) ⌝ }
     ensures { λ r. ⌜ r ≡ anyOf month (rules market year number) ⌝ }
@@ -86,5 +86,7 @@ pub fn is_trading_day(market: u32, day: CalendarDay) -> bool
     requires { ⌜ SameDay day × (day .number ≤ lastDay) ⌝ }
     ensures { λ r. ⌜ r ≡ isTradingDay market (day .number) ⌝ }
 {
-    !is_weekend(day.number) && !is_holiday(market, day)
+    let n = day.number;
+    let date = day.date;
+    !is_weekend(n) && !is_holiday_on(market, n, date.year, date.month, date.day)
 }

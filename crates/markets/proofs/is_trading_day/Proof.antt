@@ -4,6 +4,7 @@ use mathlib.Core.Bool.{Bool, true, false, not, _&&_}
 use borrow.Author.Tests.{not-true, not-false}
 use borrow.Author.Needs.{needs}
 use Rattle.markets.specs.Markets.{isHoliday, isTradingDay}
+use Rattle.markets.proofs.MonthFirst.{month-first}
 use Rattle.markets.proofs.is_trading_day.Statement.{statement}
 use Rattle.markets.proofs.is_trading_day.Tie as tie
 
@@ -19,14 +20,16 @@ returns : tie.Need-returns
 unfolding isTradingDay
 returns c =
     let s = c .before .before in
-    ap not (c .is-holiday .ensures)
-    ∙ other (isHoliday (s .before .args .market) (s .before .args .day .number)) _ (sym (s .is-weekend .ensures) ∙ not-true _ (c .before .if1 .taken))
+    let a = s .before .before in
+    ap not (c .is-holiday-on .ensures ∙ month-first (a .args .market) (a .args .day) (a .pre .0) (a .pre .1))
+    ∙ other (isHoliday (a .args .market) (a .args .day .number)) _ (sym (s .is-weekend .ensures) ∙ not-true _ (c .before .if1 .taken))
 
 returns-2 : tie.Need-returns-2
 unfolding isTradingDay
 returns-2 c =
     let s = c .before in
-    c .if1 .left ∙ weekend (isHoliday (s .before .args .market) (s .before .args .day .number)) _ (sym (s .is-weekend .ensures) ∙ not-false _ (c .if1 .left))
+    let a = s .before .before .args in
+    c .if1 .left ∙ weekend (isHoliday (a .market) (a .day .number)) _ (sym (s .is-weekend .ensures) ∙ not-false _ (c .if1 .left))
 
 pub is-trading-day-spec : {M : Type 1} → statement M
 is-trading-day-spec =
