@@ -1,6 +1,6 @@
 // The holidays of TSE, as src/markets/japan/holidays.rs has them: docs/SCOPE.md [tse-holidays]. The month comes first [month-first]:
-// an arm computes the holidays that can fall in it alone, those of a weekday on that weekday. A substitute is always the next day: the
-// Rust places it before any later holiday is in its set.
+// an arm computes the holidays that can fall in it alone. A substitute is always the next day: the Rust places it before any later
+// holiday is in its set.
 ghost use mathlib.Core.Path.{_≡_};
 ghost use mathlib.Core.Bool.{true};
 ghost use Prim.Native.Nat.{_+_, _≤_};

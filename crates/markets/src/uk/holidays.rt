@@ -1,5 +1,5 @@
 // The holidays of LSE, as src/markets/uk/holidays.rs has them: docs/SCOPE.md [lse-holidays]. The month comes first [month-first]: an
-// arm computes the holidays that can fall in it alone, those of a weekday on that weekday.
+// arm computes the holidays that can fall in it alone.
 ghost use mathlib.Core.Path.{_≡_};
 ghost use Prim.Native.Nat.{_≤_};
 ghost use Rattle.gregorian.specs.Calendar.{monday, lastDay};

@@ -1,5 +1,5 @@
 // The holidays of NYSE and NASDAQ, as src/markets/us/holidays.rs has them: docs/SCOPE.md [us-holidays]. The month comes first
-// [month-first]: an arm computes the holidays that can fall in it alone, those of a weekday on that weekday.
+// [month-first]: an arm computes the holidays that can fall in it alone.
 ghost use mathlib.Core.Path.{_≡_};
 ghost use mathlib.Core.Bool.{_&&_};
 ghost use Prim.Native.Nat.{_≤_};
