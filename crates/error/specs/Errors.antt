@@ -4,7 +4,7 @@ use Rattle.gregorian.specs.declared.Date.{Date}
 use Rattle.gregorian.specs.Calendar.{noDate}
 use Rattle.error.specs.declared.ErrorFields.{ErrorFields}
 use Rattle.error.specs.declared.CalendarError.{CalendarError}
-use Rattle.error.specs.declared.CalendarError.the-variants.{MalformedText, UnknownMarket, InvalidDate, TimeOutOfRange, DateOutOfRange, InvalidDateCalculation, NoTradingDayFound, NoTradingDayInRange, BufferTooSmall, InvalidSession, InvalidTime}
+use Rattle.error.specs.declared.CalendarError.the-variants.{MalformedText, UnknownMarket, InvalidMarketSet, InvalidDate, TimeOutOfRange, DateOutOfRange, InvalidDateCalculation, NoTradingDayFound, NoTradingDayInRange, BufferTooSmall, InvalidSession, InvalidTime}
 
 -- an error with which nothing is returned
 abbrev pub onlyNumber : ℕ → ErrorFields
@@ -15,6 +15,7 @@ onlyNumber n = record { number = n; count = 0; date = noDate }
 unfoldable pub errorFields : CalendarError → ErrorFields
 errorFields MalformedText = onlyNumber 10
 errorFields UnknownMarket = onlyNumber 8
+errorFields InvalidMarketSet = onlyNumber 12
 errorFields InvalidDate = onlyNumber 5
 errorFields TimeOutOfRange = onlyNumber 7
 errorFields (DateOutOfRange t) = record { number = 1; count = 0; date = t }

@@ -4,11 +4,13 @@ ghost use Rattle.error.specs.Errors.{onlyNumber, errorFields};
 use gregorian::Date;
 use gregorian::NO_DATE;
 
-// In the order of [errors]. The first four are added, as the Rust has no month sheet and its types no such market, date or time; so
-// are NoTradingDayInRange, as it slices no orders, and BufferTooSmall, which holds the number of entries that the answer takes.
+// In the order of [errors]. The first five are added, as the Rust has no month sheet and no sets of markets, and its types no such
+// market, date or time; so are NoTradingDayInRange, as it slices no orders, and BufferTooSmall, which holds the number of entries that
+// the answer takes.
 pub enum CalendarError {
     MalformedText,
     UnknownMarket,
+    InvalidMarketSet,
     InvalidDate,
     TimeOutOfRange,
     DateOutOfRange(Date),
@@ -33,6 +35,12 @@ pub enum TimeResult {
 
 pub enum CountResult {
     Ok(u32),
+    Err(CalendarError),
+}
+
+pub enum OptionalDateResult {
+    Found(Date),
+    None,
     Err(CalendarError),
 }
 
@@ -61,6 +69,7 @@ pub fn fields(e: CalendarError) -> ErrorFields
     match e {
         CalendarError::MalformedText => only_number(10),
         CalendarError::UnknownMarket => only_number(8),
+        CalendarError::InvalidMarketSet => only_number(12),
         CalendarError::InvalidDate => only_number(5),
         CalendarError::TimeOutOfRange => only_number(7),
         CalendarError::DateOutOfRange(date) => ErrorFields {

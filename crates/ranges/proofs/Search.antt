@@ -9,7 +9,7 @@ use native.Mathlib.Omega.{arith}
 use Rattle.utils.specs.declared.OptionalDay.{OptionalDay}
 use Rattle.utils.specs.declared.OptionalDay.the-variants.{Day, None}
 use Rattle.utils.specs.Weekday.{mapDay}
-use Rattle.ranges.specs.Ranges.{days, found, find}
+use Rattle.ranges.specs.Ranges.{days, found, find, SomeTradingDay}
 use Rattle.ranges.proofs.Lists.{test, order, days-none, days-next}
 
 -- A search either finds no day or one.
@@ -46,10 +46,14 @@ module _ (trades : ℕ → Bool) where
   pub find-first : (l : List ℕ) (n : ℕ) (rest : List ℕ) → l ≡ n ∷ rest → (t : Bool) → trades n ≡ t → find trades l ≡ found t n (find trades rest)
   find-first l n rest e t f = ap (find trades) e ∙ find-next n rest ∙ ap (λ (t : Bool). found t n (find trades rest)) f
 
-  from-found : (n b : ℕ) → n ≤ b → trades n ≡ true → find trades (days n b) ≡ Day n
+  -- the search from day n on: nothing is left; day n is found, or it is passed
+  pub from-past : (n b : ℕ) → b < n → find trades (days n b) ≡ None
+  from-past n b h = ap (find trades) (days-none n b h) ∙ find-none
+
+  pub from-found : (n b : ℕ) → n ≤ b → trades n ≡ true → find trades (days n b) ≡ Day n
   from-found n b h e = find-first (days n b) n (days (suc n) b) (days-next n b h) true e
 
-  from-passed : (n b : ℕ) → n ≤ b → trades n ≡ false → find trades (days n b) ≡ find trades (days (suc n) b)
+  pub from-passed : (n b : ℕ) → n ≤ b → trades n ≡ false → find trades (days n b) ≡ find trades (days (suc n) b)
   from-passed n b h e = find-first (days n b) n (days (suc n) b) (days-next n b h) false e
 
   -- day n does not trade, and none of the days after it that P holds of does
@@ -92,7 +96,7 @@ module _ (trades : ℕ → Bool) where
 
   -- What a search finds is the first; and where a day trades, it finds one.
   finds-none : (n m b : ℕ) → b < n → find trades (days n b) ≡ Day m → ⊥
-  finds-none n m b h e = no-day m (sym (ap (find trades) (days-none n b h) ∙ find-none) ∙ e)
+  finds-none n m b h e = no-day m (sym (from-past n b h) ∙ e)
 
   found-within : (k n m b : ℕ) → b < n + k → find trades (days n b) ≡ Day m → (m ≤ b) × First n m
   found-within zero n m b h e = absurd (finds-none n m b (omega arith) e)
@@ -120,3 +124,11 @@ module _ (trades : ℕ → Bool) where
   pub none-trades : (n b : ℕ) → find trades (days n b) ≡ None → (i : ℕ) → n ≤ i → i ≤ b → trades i ≡ false
   none-trades n b e i h l =
       ⊎-elim (λ (t : trades i ≡ true). let r = finds-one n i b h l t in absurd (no-day (r .0) (sym e ∙ r .2))) (λ t. t) (test (trades i))
+
+  -- So it finds some day of the range that trades, or none exactly if there is none.
+  pub finds-some : (a b : ℕ) → SomeTradingDay trades a b (find trades (days a b))
+  finds-some a b = by (find trades (days a b)) refl
+    where
+      by : (o : OptionalDay) → find trades (days a b) ≡ o → SomeTradingDay trades a b o
+      by (Day n) e = let r = is-first a n b e in (r .1 .from, r .0, r .1 .trading)
+      by None e = none-trades a b e

@@ -12,10 +12,10 @@ use Rattle.utils.specs.declared.OptionalDay.{OptionalDay}
 use Rattle.utils.specs.declared.OptionalDay.the-variants.{Day, None}
 use Rattle.utils.specs.Weekday.{mapDay}
 use Rattle.utils.specs.Inner.{InYears}
-use Rattle.ranges.specs.Ranges.{daysBetween, nextTradingDay, previousTradingDay}
+use Rattle.ranges.specs.Ranges.{daysBetween, nextTradingDay, previousTradingDay, SomeTradingDay}
 use Rattle.ranges.specs.Steps.{NextStep, PreviousStep, ShortRuns, ShortSteps, StepsAreShort, StepsUndo}
 use Rattle.ranges.specs.Traversals.{NonTradingBetween}
-use Rattle.ranges.proofs.Lists.{order, clash, between-length}
+use Rattle.ranges.proofs.Lists.{test, order, clash, between-length}
 use Rattle.ranges.proofs.Search.{no-day, same-day, finds, is-first, finds-one}
 use Rattle.ranges.proofs.Mirror.{mirrored, previous-mirror}
 
@@ -86,6 +86,16 @@ module _ (trades : ℕ → Bool) where
     where
       from-mirror : (k : ℕ) → nextTradingDay (mirrored trades n) (n - first) (n - n) ≡ Day k → (m : ℕ) × (previousTradingDay trades first n ≡ Day m)
       from-mirror k e = (n - k, previous-mirror trades n first o n (omega arith) ∙ ap (mapDay (λ i. n - i)) e)
+
+  -- The last trading day of a range is one of its trading days, and there is none only where no day trades.
+  pub last-some : (a b : ℕ) → 1 ≤ a → SomeTradingDay trades a b (previousTradingDay trades a (suc b))
+  last-some a b o = by (previousTradingDay trades a (suc b)) refl
+    where
+      by : (d : OptionalDay) → previousTradingDay trades a (suc b) ≡ d → SomeTradingDay trades a b d
+      by (Day n) e = let r = previous-is a (suc b) n o e in (r .0, omega (arith, r .1 .ordered), r .1 .trading)
+      by None e = λ n l h.
+          ⊎-elim (λ (t : trades n ≡ true). let r = previous-one a (suc b) n o l (omega arith) t in absurd (no-day (r .0) (sym e ∙ r .1))) (λ t. t)
+          (test (trades n))
 
 -- ---- what follows of it
 

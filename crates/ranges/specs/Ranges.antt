@@ -1,6 +1,7 @@
--- The trading days of a date range and the ways to them: docs/SCOPE.md [next], [previous], [count], [agreement]. A day is its day
--- number; `trades` is any rule of which days trade. Assumes nothing.
-use Prim.Native.Nat.{ℕ, zero, suc, _+_, _-_}
+-- The trading days of a date range and the ways to them: docs/SCOPE.md [next], [previous], [count], [agreement], [common-day]. A
+-- day is its day number; `trades` is any rule of which days trade. Assumes nothing.
+use Prim.Native.Nat.{ℕ, zero, suc, _+_, _-_, _≤_}
+use mathlib.Core.Path.{_≡_}
 use mathlib.Core.Bool.{Bool, true, false}
 use mathlib.Core.List.{List, [], _∷_, _++_, reverse}
 use Rattle.utils.specs.declared.OptionalDay.{OptionalDay}
@@ -59,6 +60,13 @@ nextTradingDay trades last n = find trades (days (suc n) last)
 -- [previous]: the last that trades of the days before n, down to the first of all
 abbrev pub previousTradingDay : (ℕ → Bool) → ℕ → ℕ → OptionalDay
 previousTradingDay trades first n = find trades (reverse (days first (n - 1)))
+
+-- ---- any trading day of a range
+
+-- [common-day]: a day from a to b that trades, or none exactly if there is no such day. Which of several it is, is left free.
+abbrev pub SomeTradingDay : (ℕ → Bool) → ℕ → ℕ → OptionalDay → Type 0
+SomeTradingDay trades a b (Day n) = (a ≤ n) × (n ≤ b) × (trades n ≡ true)
+SomeTradingDay trades a b None = (n : ℕ) → a ≤ n → n ≤ b → trades n ≡ false
 
 -- ---- the count, day by day
 

@@ -23,11 +23,11 @@ returns-4 c = c .only-number4 .ensures ∙ ap errorFields (sym (c .before .enum-
 
 returns-5 : tie.Need-returns-5
 unfolding errorFields
-returns-5 c = ap errorFields (sym (c .before .e .given .1))
+returns-5 c = c .only-number5 .ensures ∙ ap errorFields (sym (c .before .enum-told5 .given .1))
 
 returns-6 : tie.Need-returns-6
 unfolding errorFields
-returns-6 c = c .only-number5 .ensures ∙ ap errorFields (sym (c .before .enum-told5 .given .1))
+returns-6 c = ap errorFields (sym (c .before .e .given .1))
 
 returns-7 : tie.Need-returns-7
 unfolding errorFields
@@ -39,17 +39,21 @@ returns-8 c = c .only-number7 .ensures ∙ ap errorFields (sym (c .before .enum-
 
 returns-9 : tie.Need-returns-9
 unfolding errorFields
-returns-9 c = ap errorFields (sym (c .before .e2 .given .1))
+returns-9 c = c .only-number8 .ensures ∙ ap errorFields (sym (c .before .enum-told8 .given .1))
 
 returns-10 : tie.Need-returns-10
 unfolding errorFields
-returns-10 c = c .only-number8 .ensures ∙ ap errorFields (sym (c .before .enum-told8 .given .1))
+returns-10 c = ap errorFields (sym (c .before .e2 .given .1))
 
 returns-11 : tie.Need-returns-11
 unfolding errorFields
 returns-11 c = c .only-number9 .ensures ∙ ap errorFields (sym (c .before .enum-told9 .given .1))
 
+returns-12 : tie.Need-returns-12
+unfolding errorFields
+returns-12 c = c .only-number10 .ensures ∙ ap errorFields (sym (c .before .enum-told10 .given .1))
+
 pub fields-spec : {M : Type 1} → statement M
 fields-spec =
     tie.close
-    (tie.spec (search needs) (search needs) (search needs) (search needs) (search needs) (search needs) (search needs) (search needs) (search needs) (search needs) (search needs) (search needs) (search needs) (search needs) (search needs) (search needs) (search needs) (search needs) (search needs) (search needs) returns returns-2 returns-3 returns-4 returns-5 returns-6 returns-7 returns-8 returns-9 returns-10 returns-11)
+    (tie.spec (search needs) (search needs) (search needs) (search needs) (search needs) (search needs) (search needs) (search needs) (search needs) (search needs) (search needs) (search needs) (search needs) (search needs) (search needs) (search needs) (search needs) (search needs) (search needs) (search needs) (search needs) (search needs) returns returns-2 returns-3 returns-4 returns-5 returns-6 returns-7 returns-8 returns-9 returns-10 returns-11 returns-12)
