@@ -25,7 +25,7 @@ use Rattle.checks.specs.Checks.{checkedDay, tryDay, supportedDay, isMont
 
 -- Where a ladder comes to no error, its first test found none, and the rest comes to none.
 module _ {A : Type 0} (failed : A → Bool) (ok : A) (h : failed ok ≡ false) where
-  passed : (b : Bool) (e rest : A) → failed e ≡ true → cond b e rest ≡ ok → (b ≡ false) × (rest ≡ ok)
+  pub passed : (b : Bool) (e rest : A) → failed e ≡ true → cond b e rest ≡ ok → (b ≡ false) × (rest ≡ ok)
   passed true e rest f q = let z : true ≡ false = sym f ∙ ap failed q ∙ h in (cc, cc)
   passed false e rest f q = (refl, q)
 
@@ -150,7 +150,7 @@ module _ (start end : Date) where
   unfolding checkedRange leavesYears
   range-passes p q l u = simp (p, q, le-ltb (start .year) minYear l, le-ltb maxYear (end .year) u)
 
-  abbrev failed-range : RangeResult → Bool
+  abbrev pub failed-range : RangeResult → Bool
   failed-range r = tryRange r (λ e. true) (λ a b. false)
 
   neither : (p q : Bool) → (p || q) ≡ false → (p ≡ false) × (q ≡ false)

@@ -1,0 +1,2 @@
+pub mod MarketSets
+pub mod Inner
