@@ -10,6 +10,7 @@ use Rattle.schedule.specs.Schedule.{noSession}
 use Rattle.error.specs.declared.BoolResult.{BoolResult}
 use Rattle.error.specs.declared.CountResult.{CountResult}
 use Rattle.error.specs.declared.TimeResult.{TimeResult}
+use Rattle.error.specs.declared.OptionalDateResult.{OptionalDateResult}
 use Rattle.error.specs.Errors.{errorNumber, errorDate, errorCount}
 use Rattle.range_calls.specs.declared.TradingDayResult.{TradingDayResult}
 use Rattle.orders.specs.declared.SliceResult.{SliceResult}
@@ -18,6 +19,7 @@ use Rattle.answers.specs.declared.BoolAnswer.{BoolAnswer}
 use Rattle.answers.specs.declared.neighbours.TradingDayAnswer.{TradingDayAnswer}
 use Rattle.answers.specs.declared.counts.CountAnswer.{CountAnswer}
 use Rattle.answers.specs.declared.slices.SliceAnswer.{SliceAnswer}
+use Rattle.answers.specs.declared.optional_dates.OptionalDateAnswer.{OptionalDateAnswer}
 use Rattle.answers.specs.declared.trading_hours.TimeAnswer.{TimeAnswer}
 use Rattle.answers.specs.declared.trading_hours.SessionAnswer.{SessionAnswer}
 use Rattle.answers.specs.declared.trading_hours.HoursAnswer.{HoursAnswer}
@@ -54,6 +56,13 @@ countAnswer (CountResult.Err e) = record { error = errorNumber e; count = errorC
 unfoldable pub sliceAnswer : SliceResult → SliceAnswer
 sliceAnswer (SliceResult.Ok count perDay remainder) = record { error = 0; count = count; «per_day» = perDay; remainder = remainder; date = noDate }
 sliceAnswer (SliceResult.Err e) = record { error = errorNumber e; count = errorCount e; «per_day» = 0; remainder = 0; date = errorDate e }
+
+-- Without an error, a day is found with its date, or none is; an error has its number and the date that error 1 returns. Every other
+-- field is 0.
+unfoldable pub optionalDateAnswer : OptionalDateResult → OptionalDateAnswer
+optionalDateAnswer (OptionalDateResult.Found t) = record { error = 0; found = 1; date = t }
+optionalDateAnswer OptionalDateResult.None = record { error = 0; found = 0; date = noDate }
+optionalDateAnswer (OptionalDateResult.Err e) = record { error = errorNumber e; found = 0; date = errorDate e }
 
 -- Without an error, the value; an error has its number, and every other field is 0.
 unfoldable pub timeAnswer : TimeResult → TimeAnswer

@@ -1,4 +1,5 @@
 pub mod Records
 pub mod Answers
 pub mod SliceCall
+pub mod CommonDayCall
 pub mod Expected

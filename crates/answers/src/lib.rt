@@ -2,6 +2,7 @@
 // number; an order sliced by the struct that the count call returned.
 pub mod counts;
 pub mod neighbours;
+pub mod optional_dates;
 pub mod records;
 pub mod slices;
 pub mod trading_hours;

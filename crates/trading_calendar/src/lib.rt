@@ -1,4 +1,5 @@
 // The calls that a host in C or Rust makes. Every call takes every number and every text, so none has a `requires`.
+pub mod common_days;
 pub mod neighbours;
 pub mod ranges;
 pub mod sheets;
