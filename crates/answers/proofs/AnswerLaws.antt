@@ -1,23 +1,35 @@
--- The answers with a number and of an order, field by field; what one without an error was made from; an order by what the count call
--- returned.
+-- The answers with a number, of an order and with a day or none, field by field; what one without an error was made from; an order by
+-- what the count call returned; a right answer of the call for a common day.
 -- Assumes nothing.
 use Prim.Native.Nat.{ℕ}
 use mathlib.Core.Path.{_≡_, refl, ap}
 use mathlib.Core.List.{List}
 use native.Mathlib.Omega.{arith}
 use borrow.Author.Tests.{eq-eqb, ne-eqb}
+use Rattle.gregorian.specs.declared.Date.{Date}
 use Rattle.gregorian.specs.Calendar.{noDate}
+use Rattle.utils.specs.declared.OptionalDay.{OptionalDay}
+use Rattle.utils.specs.declared.OptionalDay.the-variants.{Day, None}
+use Rattle.ranges.specs.Ranges.{days, find}
+use Rattle.ranges.proofs.Search.{finds-some}
 use Rattle.error.specs.declared.CountResult.{CountResult}
+use Rattle.error.specs.declared.OptionalDateResult.{OptionalDateResult}
 use Rattle.error.specs.declared.CalendarError.{CalendarError}
-use Rattle.error.specs.declared.CalendarError.the-variants.{NoTradingDayInRange, BufferTooSmall}
+use Rattle.error.specs.declared.CalendarError.the-variants.{InvalidMarketSet, NoTradingDayInRange, BufferTooSmall}
 use Rattle.error.specs.Errors.{errorFields}
 use Rattle.error.proofs.ErrorLaws.{error-number}
 use Rattle.answers.specs.declared.counts.CountAnswer.{CountAnswer}
+use Rattle.checks.specs.declared.RangeResult.{RangeResult}
+use Rattle.checks.specs.Checks.{tryRange}
+use Rattle.market_sets.specs.MarketSets.{isCommonTradingDay, checkedSetRange, foundOn}
+use Rattle.market_sets.specs.Inner.{firstCommonDayResult}
 use Rattle.orders.specs.declared.SliceResult.{SliceResult}
 use Rattle.orders.specs.Slices.{sliceResult, sliceBuffer}
-use Rattle.answers.specs.Answers.{countAnswer, sliceAnswer}
+use Rattle.answers.specs.declared.optional_dates.OptionalDateAnswer.{OptionalDateAnswer}
+use Rattle.answers.specs.Answers.{countAnswer, sliceAnswer, optionalDateAnswer}
 use Rattle.answers.specs.SliceCall.{sliceOrderAnswer, sliceOrderBuffer}
-use Rattle.answers.specs.Expected.{counted, tooSmall, slicedOver, notSliced}
+use Rattle.answers.specs.CommonDayCall.{CommonDayPast, CommonTradingDay}
+use Rattle.answers.specs.Expected.{counted, tooSmall, slicedOver, notSliced, someDate, noneFound, notSearched}
 
 pub counted-is : (n : ℕ) → countAnswer (CountResult.Ok n) ≡ counted n
 unfolding countAnswer
@@ -65,3 +77,41 @@ module _ (quantity : ℕ) (counted : CountAnswer) (buffer : List ℕ) where
   pub days-counted : counted .error ≡ 0 → (sliceOrderAnswer quantity counted buffer ≡ sliceAnswer (sliceResult quantity (counted .count) buffer)) × (sliceOrderBuffer quantity counted buffer ≡ sliceBuffer quantity (counted .count) buffer)
   unfolding sliceOrderAnswer sliceOrderBuffer
   days-counted z = let e = eq-eqb (counted .error) 0 z in (simp e, simp e)
+
+-- ---- a day or none
+
+pub some-date-is : (t : Date) → optionalDateAnswer (OptionalDateResult.Found t) ≡ someDate t
+unfolding optionalDateAnswer
+some-date-is t = refl
+
+pub none-found-is : optionalDateAnswer OptionalDateResult.None ≡ noneFound
+unfolding optionalDateAnswer
+none-found-is = refl
+
+pub no-set-is : optionalDateAnswer (OptionalDateResult.Err InvalidMarketSet) ≡ notSearched 12 noDate
+unfolding optionalDateAnswer errorFields
+no-set-is = refl
+
+-- an error of the dates, as the count call returns it
+pub as-counted : (e : CalendarError) → optionalDateAnswer (OptionalDateResult.Err e) ≡ notSearched (countAnswer (CountResult.Err e) .error) (countAnswer (CountResult.Err e) .date)
+unfolding optionalDateAnswer countAnswer
+as-counted e = refl
+
+pub is-search-error : (e : CalendarError) → optionalDateAnswer (OptionalDateResult.Err e) .error ≡ 0 → ⊥
+unfolding optionalDateAnswer
+is-search-error e z = omega (arith, z, error-number e)
+
+pub no-search-error : (day : OptionalDay) → optionalDateAnswer (foundOn day) .error ≡ 0
+unfolding optionalDateAnswer
+no-search-error (Day n) = refl
+no-search-error None = refl
+
+-- The first day of the range on which every market of the set trades is a right answer.
+module _ (markets : ℕ) (start end : Date) (r : OptionalDateAnswer) where
+  pub first-is-right : r ≡ optionalDateAnswer (firstCommonDayResult markets start end) → CommonTradingDay markets start end r
+  first-is-right q = by (checkedSetRange markets start end) q
+    where
+      by : (c : RangeResult) → r ≡ optionalDateAnswer (tryRange c OptionalDateResult.Err (λ a b. foundOn (find (isCommonTradingDay markets) (days a b))))
+          → CommonDayPast markets c r
+      by (RangeResult.Ok a b) p = (find (isCommonTradingDay markets) (days a b), finds-some (isCommonTradingDay markets) a b, p)
+      by (RangeResult.Err e) p = p

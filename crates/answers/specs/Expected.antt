@@ -8,6 +8,7 @@ use Rattle.answers.specs.declared.BoolAnswer.{BoolAnswer}
 use Rattle.answers.specs.declared.neighbours.TradingDayAnswer.{TradingDayAnswer}
 use Rattle.answers.specs.declared.counts.CountAnswer.{CountAnswer}
 use Rattle.answers.specs.declared.slices.SliceAnswer.{SliceAnswer}
+use Rattle.answers.specs.declared.optional_dates.OptionalDateAnswer.{OptionalDateAnswer}
 
 -- ---- without an error
 
@@ -32,6 +33,13 @@ counted n = record { error = 0; count = n; date = noDate }
 abbrev pub slicedOver : ℕ → ℕ → ℕ → SliceAnswer
 slicedOver count perDay remainder = record { error = 0; count = count; «per_day» = perDay; remainder = remainder; date = noDate }
 
+-- a search that found a day, and one that found none
+abbrev pub someDate : Date → OptionalDateAnswer
+someDate t = record { error = 0; found = 1; date = t }
+
+abbrev pub noneFound : OptionalDateAnswer
+noneFound = record { error = 0; found = 0; date = noDate }
+
 -- ---- with one
 
 -- error 1, with the date that it returns
@@ -45,3 +53,7 @@ tooSmall n = record { error = 9; count = n; date = noDate }
 -- an error of an order, with the number that error 9 returns and the date that error 1 does
 abbrev pub notSliced : ℕ → ℕ → Date → SliceAnswer
 notSliced error count t = record { error = error; count = count; «per_day» = 0; remainder = 0; date = t }
+
+-- an error of a search, with the date that error 1 returns
+abbrev pub notSearched : ℕ → Date → OptionalDateAnswer
+notSearched error t = record { error = error; found = 0; date = t }

@@ -56,6 +56,10 @@ module _ (market year month day : ℕ) where
   unfolding checkedDay
   day-passes k d = simp (k, d)
 
+  pub supported-passes : isMarket market ≡ true → isDate year month day ≡ true → isSupported year ≡ true → supportedDay market year month day true ≡ DayResult.Ok (dayNumber year month day)
+  unfolding supportedDay
+  supported-passes k d s = simp (day-passes k d, s)
+
   abbrev failed : DayResult → Bool
   failed r = tryDay r (λ e. true) (λ n. false)
 
@@ -140,6 +144,9 @@ module _ {A : Type 0} (error : CalendarError → A) (rest : ℕ → ℕ → A) (
 
 -- days a and b of the start and the end
 pub record CheckedRange (start end : Date) (a b : ℕ) : Type 0 where
+  pub start-date : isDateOf start ≡ true
+  pub end-date : isDateOf end ≡ true
+  pub numbers : (a ≡ number start) × (b ≡ number end)
   pub start-year : minYear ≤ start .year
   pub end-year : end .year ≤ maxYear
   pub same : SameDay (record { number = a; date = start })
@@ -170,6 +177,9 @@ module _ (start end : Date) where
       let i : a ≡ number start = cc in
       let k : b ≡ number end = cc in
       record {
+        start-date = s;
+        end-date = e;
+        numbers = (i, k);
         start-year = ltb-false (start .year) minYear (years .0);
         end-year = ltb-false maxYear (end .year) (years .1);
         same = same-day (start .year) (start .month) (start .day) a s i;

@@ -5,7 +5,7 @@ use mathlib.Core.Path.{_≡_, refl}
 use mathlib.Core.Bool.{true}
 use lib.Dec.{leb}
 use native.Mathlib.Omega.{arith}
-use borrow.Author.Tests.{leb-true}
+use borrow.Author.Tests.{leb-true, le-leb}
 use Rattle.gregorian.specs.Calendar.{firstDay, lastDay}
 use Rattle.gregorian.proofs.Tests.{and-left, and-right}
 use Rattle.markets.specs.Years.{minYear, maxYear, isSupported, firstDayOf, lastDayOf}
@@ -13,6 +13,10 @@ use Rattle.markets.specs.Years.{minYear, maxYear, isSupported, firstDayO
 pub supported-years : (y : ℕ) → isSupported y ≡ true → (minYear ≤ y) × (y ≤ maxYear)
 unfolding isSupported
 supported-years y e = (leb-true minYear y (and-left (leb minYear y) _ e), leb-true y maxYear (and-right (leb minYear y) _ e))
+
+pub years-supported : (y : ℕ) → minYear ≤ y → y ≤ maxYear → isSupported y ≡ true
+unfolding isSupported
+years-supported y l h = simp (le-leb minYear y l, le-leb y maxYear h)
 
 -- A search looks at all days of years 1 to 9999.
 pub all-days : (market : ℕ) → (firstDayOf market ≡ firstDay) × (lastDayOf market ≡ lastDay)

@@ -9,7 +9,8 @@ use native.Mathlib.Nat.{zero-add}
 use native.Mathlib.Omega.{arith}
 use Rattle.ranges.specs.Ranges.{daysFrom, keep, filter, tradingDays, oneMore, countFrom, countTradingDays, sumOf}
 use Rattle.ranges.specs.Agreement.{parts, Splits, countOf}
-use Rattle.ranges.proofs.Lists.{trading-split}
+use Rattle.ranges.proofs.Lists.{trading-split, all-fail, first-passes}
+use Rattle.ranges.proofs.Search.{is-first, finds-one}
 
 pub splits-order : (a : ℕ) (splits : List ℕ) (b : ℕ) → Splits a splits b → a ≤ suc b
 splits-order a [] b h = h
@@ -49,6 +50,16 @@ module _ (trades : ℕ → Bool) where
 
   pub counted : (a b : ℕ) → countTradingDays trades a b ≡ length (tradingDays trades a b)
   counted a b = counted-from (suc b - a) 0 a ∙ zero-add (length (tradingDays trades a b))
+
+  -- No day is counted exactly if none trades.
+  pub none-counted : (a b : ℕ) → ((n : ℕ) → a ≤ n → n ≤ b → trades n ≡ false) → countTradingDays trades a b ≡ 0
+  none-counted a b h = counted a b ∙ ap length (all-fail trades a b h)
+
+  pub one-counted : (a b n : ℕ) → a ≤ n → n ≤ b → trades n ≡ true → 1 ≤ countTradingDays trades a b
+  one-counted a b n l h t =
+      let r = finds-one trades a n b l h t in
+      let f = is-first trades a (r .0) b (r .2) .1 in
+      omega (arith, counted a b, ap length (first-passes trades a (r .0) b (f .from) (omega (arith, r .1)) (f .trading) (f .non-trading)))
 
   count-split : (a c b : ℕ) → a ≤ suc c → c ≤ b → countTradingDays trades a c + countTradingDays trades (suc c) b ≡ countTradingDays trades a b
   count-split a c b h k =

@@ -2,7 +2,7 @@
 use mathlib.Core.Path.{ap, _∙_}
 use borrow.Author.Needs.{needs}
 use Rattle.answers.specs.Answers.{optionalDateAnswer}
-use Rattle.answers.proofs.CommonDayLaws.{first-is-right}
+use Rattle.answers.proofs.AnswerLaws.{first-is-right}
 use Rattle.trading_calendar.proofs.common_days.tc_common_trading_day.Statement.{statement}
 use Rattle.trading_calendar.proofs.common_days.tc_common_trading_day.Tie as tie
 
