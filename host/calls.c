@@ -3,16 +3,19 @@
 
 #include "plain_calendar.h"
 
-/* Both functions of a call, from its arguments. */
-#define BOTH(name, of, ...)                                                               \
-    static numbers library_##name(const input *in) { return of(tc_##name(__VA_ARGS__)); } \
+/* Both functions of a call, from its arguments. Where the call leaves its day open, the plain one also takes the library's. */
+#define LIBRARY(name, of, ...) \
+    static numbers library_##name(const input *in) { return of(tc_##name(__VA_ARGS__)); }
+#define PLAIN(name, of, ...) \
     static numbers plain_##name##_of(const input *in) { return of(plain_##name(__VA_ARGS__)); }
+#define BOTH(name, of, ...) LIBRARY(name, of, __VA_ARGS__) PLAIN(name, of, __VA_ARGS__)
 
-/* The number at a place, the date, the session and the record from a place on. */
+/* The number at a place, the date and the session from a place on; the record; a set and a date range. */
 #define N(place) in->values[place]
 #define DATE(place) N(place), N(place + 1), N(place + 2)
 #define SESSION(place) session_at(in, place)
 #define RECORD record_of(in->values)
+#define RANGE_OF_SET (uint8_t)N(0), DATE(1), DATE(4)
 
 static tc_session session_at(const input *in, int place) {
     tc_session session = {N(place), N(place + 1)};
@@ -31,6 +34,8 @@ BOTH(previous_trading_day, of_trading_day, N(0), DATE(1))
 BOTH(trading_days_in_month, of_count, N(0), N(1), N(2), in->out, in->out_length)
 BOTH(count_trading_days, of_count, N(0), DATE(1), DATE(4))
 BOTH(slice_order, of_slice, N(0), N(1), DATE(2), DATE(5), in->out, in->out_length)
+LIBRARY(common_trading_day, of_optional_date_result, RANGE_OF_SET)
+PLAIN(common_trading_day, of_optional_date_result, RANGE_OF_SET, tc_common_trading_day(RANGE_OF_SET).date)
 BOTH(trading_hours, of_hours, N(0), DATE(1))
 BOTH(is_open, of_bool, N(0), DATE(1), N(4))
 BOTH(session_new, of_session, N(0), N(1))
@@ -58,6 +63,7 @@ const call calls[CALLS] = {
     ROW(trading_days_in_month, "MYm", 0, 0, 1),
     ROW(count_trading_days, "MYmdYmd", 0, 0, 0),
     ROW(slice_order, "MqYmdYmd", 0, 0, 4),
+    ROW(common_trading_day, "SYmdYmd", 0, 0, 0),
     ROW(trading_hours, "Mymd", 0, 0, 0),
     ROW(is_open, "MYmdt", 4, 0, 0),
     ROW(session_new, "tt", 0, 0, 0),
@@ -71,12 +77,13 @@ const call calls[CALLS] = {
 };
 
 /* Which numbers of a letter are valid: markets, years that have trading days, years, months, days, weekdays, which of these, times,
- * whether a part of a record is present, and quantities. */
+ * whether a part of a record is present, quantities, and sets of markets. */
 static const struct {
     uint32_t least, most;
 } ranges[] = {
-    ['M'] = {0, 4}, ['Y'] = {2020, 2030}, ['y'] = {1, 9999}, ['m'] = {1, 12},    ['d'] = {1, 31},
-    ['w'] = {0, 6}, ['n'] = {1, 5},       ['h'] = {0, 1},    ['t'] = {0, 86399}, ['q'] = {0, UINT32_MAX},
+    ['M'] = {0, 4},  ['Y'] = {2020, 2030}, ['y'] = {1, 9999}, ['m'] = {1, 12},    ['d'] = {1, 31},
+    ['w'] = {0, 6},  ['n'] = {1, 5},       ['h'] = {0, 1},    ['t'] = {0, 86399}, ['q'] = {0, UINT32_MAX},
+    ['S'] = {1, 31},
 };
 
 static uint32_t draw_value(char letter, uint32_t *sequence) {

@@ -24,13 +24,13 @@ typedef struct {
     numbers (*plain)(const input *in);
 } call;
 
-enum { CALLS = 22 };
+enum { CALLS = 23 };
 extern const call calls[CALLS];
 
 /* Draws the numbers of a call from a place on: most of them valid, some at their limits, some at any limit, some any numbers. */
 void draw_values(input *in, const call *of, int place, uint32_t *sequence);
 
-/* Whether the answer of a call, with its own fields alone, is an error or no date. */
+/* Whether the answer of a call, with its own fields alone, is an error, or no date where a call has no errors. */
 int is_refused(numbers answer);
 
 #endif

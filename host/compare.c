@@ -37,6 +37,11 @@ numbers of_slice(tc_slice_result a) {
     return list;
 }
 
+numbers of_optional_date_result(tc_optional_date_result a) {
+    numbers list = {5, {a.error, a.found, a.date.year, a.date.month, a.date.day}};
+    return list;
+}
+
 numbers of_time(tc_time_result a) {
     numbers list = {2, {a.error, a.seconds}};
     return list;
@@ -95,6 +100,20 @@ int finish(const tally *calls, int count) {
     return failed;
 }
 
+int finish_cases(const test_case *cases, size_t count) {
+    const char *separator = ":";
+    int failed = 0;
+    printf("the cases");
+    for (size_t i = 0; i < count; i++) {
+        if (cases[i].name == NULL) continue;
+        printf("%s %s %lu", separator, cases[i].name, cases[i].met);
+        separator = ",";
+        if (cases[i].met < cases[i].often) failed = 1;
+    }
+    printf("%s\n", failed ? "; not each as often as is meant" : "");
+    return failed;
+}
+
 /* By xorshift. */
 uint32_t draw(uint32_t *sequence) {
     *sequence ^= *sequence << 13;
@@ -141,10 +160,13 @@ static const tc_date edges[EDGES] = {
     {2025, 2, 29},      {2024, 2, 30},         {2025, 4, 31},         {2031, 2, 29},  {10000, 1, 1},    {2020, 0, 0},
     {UINT32_MAX, 1, 1}, {2025, UINT32_MAX, 1}, {2025, 1, UINT32_MAX}, {2030, 12, 32}};
 
+void ask_edges_of(range_asker *ask, uint32_t market) {
+    for (int a = 0; a < EDGES; a++)
+        for (int b = 0; b < EDGES; b++) ask(range_of(market, edges[a], edges[b]));
+}
+
 void ask_edges(range_asker *ask) {
-    for (int i = 0; i < CODES; i++)
-        for (int a = 0; a < EDGES; a++)
-            for (int b = 0; b < EDGES; b++) ask(range_of(codes[i], edges[a], edges[b]));
+    for (int i = 0; i < CODES; i++) ask_edges_of(ask, codes[i]);
 }
 
 tc_date drawn_date(void) {

@@ -1,6 +1,6 @@
 /* Prints the moving days of a year that the markets' rules rest on; for each market its regular hours, its trading days, counted,
  * and its holidays, be they on weekends or not; when NYSE closes early, its trading days in December and beside the 25th, and an
- * order sliced over its year. Usage: example YEAR. */
+ * order sliced over its year; and a day after the 25th on which three markets trade. Usage: example YEAR. */
 #include "trading_calendar.h"
 
 #include <stdio.h>
@@ -10,13 +10,17 @@ static void print_date(tc_date date) {
     printf("%04lu-%02lu-%02lu", (unsigned long)date.year, (unsigned long)date.month, (unsigned long)date.day);
 }
 
-static void print(const char *name, tc_optional_date answer) {
-    printf("%-24s ", name);
-    if (answer.found)
-        print_date(answer.date);
+static void print_found(uint32_t found, tc_date date) {
+    if (found)
+        print_date(date);
     else
         printf("none");
     printf("\n");
+}
+
+static void print(const char *name, tc_optional_date answer) {
+    printf("%-24s ", name);
+    print_found(answer.found, answer.date);
 }
 
 static void print_moving_days(uint32_t year) {
@@ -107,6 +111,16 @@ static void print_order(const char *name, uint32_t market, uint32_t quantity, ui
     printf("%lu on the first day, %lu on the last\n", (unsigned long)slices[0], (unsigned long)slices[answer.count - 1]);
 }
 
+/* Which it is, if there are several, is left open. */
+static void print_common_day(uint32_t year) {
+    tc_optional_date_result answer = tc_common_trading_day(TC_NYSE_BIT | TC_LSE_BIT | TC_TSE_BIT, year, 12, 25, year, 12, 29);
+    printf("NYSE, LSE and TSE, a trading day of all from Dec 25 to 29: ");
+    if (answer.error != TC_OK)
+        printf("error %lu\n", (unsigned long)answer.error);
+    else
+        print_found(answer.found, answer.date);
+}
+
 static void print_nyse(uint32_t year) {
     enum { TEN = 36000 };
     printf("NYSE closes early on: ");
@@ -131,6 +145,7 @@ static void print_markets(uint32_t year) {
         print_days(is_holiday, market, year);
     }
     print_nyse(year);
+    print_common_day(year);
 }
 
 int main(int argc, char **argv) {

@@ -75,7 +75,7 @@ static tc_optional_date none(void) {
 }
 
 static tc_optional_date found(int r) {
-    tc_optional_date answer = {1, {days[r].year, days[r].month, days[r].day}};
+    tc_optional_date answer = {1, plain_date(r)};
     return answer;
 }
 
@@ -91,6 +91,11 @@ int plain_row(uint32_t year, uint32_t month, uint32_t day) {
 }
 
 int plain_row_of(tc_date date) { return plain_row(date.year, date.month, date.day); }
+
+tc_date plain_date(int r) {
+    tc_date date = {days[r].year, days[r].month, days[r].day};
+    return date;
+}
 
 int plain_weekday(int r) { return days[r].weekday; }
 

@@ -7,7 +7,7 @@
 #include <string.h>
 
 /* How many comparisons are meant. */
-enum { MEANT = 107 };
+enum { MEANT = 123 };
 static int compared, differ;
 
 static void is(const char *expression, unsigned long value, unsigned long expected) {
@@ -30,6 +30,7 @@ static void structs(void) {
     IS(sizeof(tc_trading_day_result), 4 * 6);
     IS(sizeof(tc_count_result), 4 * 5);
     IS(sizeof(tc_slice_result), 4 * 7);
+    IS(sizeof(tc_optional_date_result), 4 * 5);
     IS(sizeof(tc_time_result), 4 * 2);
     IS(sizeof(tc_session_result), 4 * 3);
     IS(sizeof(tc_hours_result), 4 * 14);
@@ -45,15 +46,22 @@ static void structs(void) {
     IS(offsetof(tc_slice_result, per_day), 4 * 2);
     IS(offsetof(tc_slice_result, remainder), 4 * 3);
     IS(offsetof(tc_slice_result, date), 4 * 4);
+    IS(offsetof(tc_optional_date_result, found), 4 * 1);
+    IS(offsetof(tc_optional_date_result, date), 4 * 2);
 }
 
-/* [markets], [weekday-numbers], and lengths that test_ranges.c, test_sheet.c and test_slices.c show to be enough. */
+/* [markets], [market-set], [weekday-numbers], and lengths that test_ranges.c, test_sheet.c and test_slices.c show to be enough. */
 static void codes(void) {
     IS(TC_NYSE, 0);
     IS(TC_NASDAQ, 1);
     IS(TC_LSE, 2);
     IS(TC_TSE, 3);
     IS(TC_TSX, 4);
+    IS(TC_NYSE_BIT, 1);
+    IS(TC_NASDAQ_BIT, 2);
+    IS(TC_LSE_BIT, 4);
+    IS(TC_TSE_BIT, 8);
+    IS(TC_TSX_BIT, 16);
     IS(TC_MONDAY, 0);
     IS(TC_TUESDAY, 1);
     IS(TC_WEDNESDAY, 2);
@@ -104,6 +112,16 @@ static void order(void) {
     IS(slices[2], 3);
 }
 
+/* TSE is closed on 23 November 2022, and NYSE on the 24th. */
+static void common_day(void) {
+    tc_optional_date_result day = tc_common_trading_day(TC_NYSE_BIT | TC_TSE_BIT, 2022, 11, 23, 2022, 11, 25);
+
+    IS(day.error, TC_OK);
+    IS(day.found, 1);
+    IS_DATE(day.date, 2022, 11, 25);
+    IS(tc_common_trading_day(TC_NYSE_BIT | TC_TSE_BIT, 2022, 11, 23, 2022, 11, 24).found, 0);
+}
+
 static void hours(void) {
     tc_hours nyse = tc_trading_hours(TC_NYSE, 2022, 7, 3).hours;
     tc_session night = tc_session_new(72000, 14400).session, none = {0, 0};
@@ -147,6 +165,7 @@ static void errors(void) {
     IS(tc_trading_days_in_month(TC_LSE, 2025, 1, &none, 0).error, TC_BUFFER_TOO_SMALL);
     IS(tc_month_sheet(&none, 0, &none + 1, 0).error, TC_MALFORMED_TEXT);
     IS(tc_slice_order(TC_LSE, 1, 2025, 3, 8, 2025, 3, 9, &slice, 0).error, TC_NO_TRADING_DAY_IN_RANGE);
+    IS(tc_common_trading_day(0, 2025, 3, 8, 2025, 3, 9).error, TC_INVALID_MARKET_SET);
     IS(TC_OK, 0);
     IS(TC_DATE_OUT_OF_RANGE, 1);
     IS(TC_INVALID_DATE_CALCULATION, 2);
@@ -159,6 +178,7 @@ static void errors(void) {
     IS(TC_BUFFER_TOO_SMALL, 9);
     IS(TC_MALFORMED_TEXT, 10);
     IS(TC_NO_TRADING_DAY_IN_RANGE, 11);
+    IS(TC_INVALID_MARKET_SET, 12);
 }
 
 int main(void) {
@@ -167,6 +187,7 @@ int main(void) {
     moving_days();
     trading_days();
     order();
+    common_day();
     hours();
     sheet();
     errors();

@@ -6,7 +6,6 @@
 #include "plain_calendar.h"
 #include "trading_calendar.h"
 
-#include <stdio.h>
 #include <string.h>
 
 enum call { SLICES, SLICE_LAWS, UP_TO_2782, CALLS };
@@ -57,21 +56,17 @@ static tally calls[CALLS] = {
 
 /* Each comparison with the plain calendar is one of these cases: an error, by its number, or slices: 0 stands for those
  * with a remainder. */
-enum { WITHOUT_REMAINDER = 12, OF_NO_SHARES };
-static struct {
-    const char *name;
-    unsigned long met;
-} cases[] = {
-    [0] = {"slices with a remainder", 0},
-    [1] = {"error 1", 0},
-    [5] = {"error 5", 0},
-    [8] = {"error 8", 0},
-    [9] = {"error 9", 0},
-    [11] = {"error 11", 0},
-    [WITHOUT_REMAINDER] = {"slices without one", 0},
-    [OF_NO_SHARES] = {"slices of no shares", 0},
+enum { WITHOUT_REMAINDER = 12, OF_NO_SHARES, OFTEN = 10000 };
+static test_case cases[] = {
+    [0] = {"slices with a remainder", OFTEN, 0},
+    [1] = {"error 1", OFTEN, 0},
+    [5] = {"error 5", OFTEN, 0},
+    [8] = {"error 8", OFTEN, 0},
+    [9] = {"error 9", OFTEN, 0},
+    [11] = {"error 11", OFTEN, 0},
+    [WITHOUT_REMAINDER] = {"slices without one", OFTEN, 0},
+    [OF_NO_SHARES] = {"slices of no shares", OFTEN, 0},
 };
-enum { OFTEN = 10000 };
 
 static size_t case_of(uint32_t quantity, tc_slice_result expected) {
     if (expected.error != 0 || expected.remainder != 0) return expected.error;
@@ -242,21 +237,6 @@ static void up_to_2782(void) {
     compare(&calls[UP_TO_2782], none, most, length);
 }
 
-/* 0 if each case was met often, else 1. */
-static int finish_cases(void) {
-    const char *separator = ":";
-    int failed = 0;
-    printf("the cases");
-    for (size_t i = 0; i < LENGTH(cases); i++) {
-        if (cases[i].name == NULL) continue;
-        printf("%s %s %lu", separator, cases[i].name, cases[i].met);
-        separator = ",";
-        if (cases[i].met < OFTEN) failed = 1;
-    }
-    printf("%s\n", failed ? "; not each as often as is meant" : "");
-    return failed;
-}
-
 int main(void) {
     int failed;
     plain_fill();
@@ -270,5 +250,5 @@ int main(void) {
     up_to_2782();
     close_lent(&buffer);
     failed = finish(calls, CALLS);
-    return finish_cases() || failed;
+    return finish_cases(cases, LENGTH(cases)) || failed;
 }

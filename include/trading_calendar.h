@@ -17,6 +17,15 @@ extern "C" {
 /* The markets [markets]. */
 enum { TC_NYSE = 0, TC_NASDAQ = 1, TC_LSE = 2, TC_TSE = 3, TC_TSX = 4 };
 
+/* Their bits. A set of markets is a byte, the bits of its members joined by | [market-set]. */
+enum {
+    TC_NYSE_BIT = 1 << TC_NYSE,
+    TC_NASDAQ_BIT = 1 << TC_NASDAQ,
+    TC_LSE_BIT = 1 << TC_LSE,
+    TC_TSE_BIT = 1 << TC_TSE,
+    TC_TSX_BIT = 1 << TC_TSX
+};
+
 /* The weekdays [weekday-numbers]. */
 enum { TC_MONDAY = 0, TC_TUESDAY = 1, TC_WEDNESDAY = 2, TC_THURSDAY = 3, TC_FRIDAY = 4, TC_SATURDAY = 5, TC_SUNDAY = 6 };
 
@@ -33,7 +42,8 @@ enum {
     TC_UNKNOWN_MARKET = 8,           /* market: it is not 0 to 4 */
     TC_BUFFER_TOO_SMALL = 9,         /* buffer: the answer does not fit */
     TC_MALFORMED_TEXT = 10,          /* text: it is not of the form */
-    TC_NO_TRADING_DAY_IN_RANGE = 11  /* date range: none of its days trades */
+    TC_NO_TRADING_DAY_IN_RANGE = 11, /* date range: none of its days trades */
+    TC_INVALID_MARKET_SET = 12       /* market set: it is empty or has a bit above 4 */
 };
 
 /* How many bytes are enough for the trading days of any month, and for any month sheet; how many entries for the slices of any
@@ -103,6 +113,12 @@ typedef struct {
     tc_date date;
 } tc_slice_result;
 
+/* found is 1 and date is the answer, or both are 0: none. With error 1 date is the start. */
+typedef struct {
+    uint32_t error, found;
+    tc_date date;
+} tc_optional_date_result;
+
 /* seconds is a time. */
 typedef struct {
     uint32_t error, seconds;
@@ -164,6 +180,12 @@ tc_count_result tc_count_trading_days(uint32_t market, uint32_t start_year, uint
  * the end), 9 buffer. */
 tc_slice_result tc_slice_order(uint32_t market, uint32_t quantity, uint32_t start_year, uint32_t start_month, uint32_t start_day,
                                uint32_t end_year, uint32_t end_month, uint32_t end_day, uint32_t *out, size_t out_length);
+
+/* A day from the start to the end, both included, on which every market of the set trades; or none exactly if there is no such day,
+ * also where the start is after the end. Which of several is left open: do not rely on it being the first [common-day]
+ * [common-day-laws]. Errors: 12 market set, 5 date, 1 year as with the count. */
+tc_optional_date_result tc_common_trading_day(uint8_t markets, uint32_t start_year, uint32_t start_month, uint32_t start_day,
+                                              uint32_t end_year, uint32_t end_month, uint32_t end_day);
 
 /* The hours of the market on a date of any year, be it a trading day or not [trading-hours]. On an early close of the US
  * [early-close] regular.end stays, early_close is set, and after_hours begin with it; tc_market_close gives the close. The exchange's
