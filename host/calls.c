@@ -3,11 +3,10 @@
 
 #include "plain_calendar.h"
 
-/* Both functions of a call, from its arguments. Where the call leaves its day open, the plain one also takes the library's. */
-#define LIBRARY(name, of, ...) \
-    static numbers library_##name(const input *in) { return of(tc_##name(__VA_ARGS__)); }
-#define PLAIN(name, of, ...) \
-    static numbers plain_##name##_of(const input *in) { return of(plain_##name(__VA_ARGS__)); }
+/* Both functions of a call, from its arguments. Where the call leaves its day open, the plain one takes the library's day too, so
+ * that any right one is the same. */
+#define LIBRARY(name, of, ...) static numbers library_##name(const input *in) { return of(tc_##name(__VA_ARGS__)); }
+#define PLAIN(name, of, ...) static numbers plain_##name##_of(const input *in) { return of(plain_##name(__VA_ARGS__)); }
 #define BOTH(name, of, ...) LIBRARY(name, of, __VA_ARGS__) PLAIN(name, of, __VA_ARGS__)
 
 /* The number at a place, the date and the session from a place on; the record; a set and a date range. */
@@ -81,9 +80,8 @@ const call calls[CALLS] = {
 static const struct {
     uint32_t least, most;
 } ranges[] = {
-    ['M'] = {0, 4},  ['Y'] = {2020, 2030}, ['y'] = {1, 9999}, ['m'] = {1, 12},    ['d'] = {1, 31},
-    ['w'] = {0, 6},  ['n'] = {1, 5},       ['h'] = {0, 1},    ['t'] = {0, 86399}, ['q'] = {0, UINT32_MAX},
-    ['S'] = {1, 31},
+    ['M'] = {0, 4}, ['Y'] = {2020, 2030}, ['y'] = {1, 9999},  ['m'] = {1, 12},         ['d'] = {1, 31}, ['w'] = {0, 6},
+    ['n'] = {1, 5}, ['h'] = {0, 1},       ['t'] = {0, 86399}, ['q'] = {0, UINT32_MAX}, ['S'] = {1, 31},
 };
 
 static uint32_t draw_value(char letter, uint32_t *sequence) {

@@ -1,6 +1,6 @@
 /* Prints the moving days of a year that the markets' rules rest on; for each market its regular hours, its trading days, counted,
  * and its holidays, be they on weekends or not; when NYSE closes early, its trading days in December and beside the 25th, and an
- * order sliced over its year; and a day after the 25th on which three markets trade. Usage: example YEAR. */
+ * order sliced over its year; and a day from the 25th on which three markets trade. Usage: example YEAR. */
 #include "trading_calendar.h"
 
 #include <stdio.h>
@@ -111,7 +111,7 @@ static void print_order(const char *name, uint32_t market, uint32_t quantity, ui
     printf("%lu on the first day, %lu on the last\n", (unsigned long)slices[0], (unsigned long)slices[answer.count - 1]);
 }
 
-/* Which it is, if there are several, is left open. */
+/* Which day it is, if there are several, is left open. */
 static void print_common_day(uint32_t year) {
     tc_optional_date_result answer = tc_common_trading_day(TC_NYSE_BIT | TC_LSE_BIT | TC_TSE_BIT, year, 12, 25, year, 12, 29);
     printf("NYSE, LSE and TSE, a trading day of all from Dec 25 to 29: ");

@@ -11,8 +11,8 @@ enum call { COMMON_DAYS, COMMON_DAY_LAWS, SETS_OF_ONE, CALLS };
 /* All bytes, and the last that is a set. */
 enum { BYTES = 256, EVERY_MARKET = (1 << MARKETS) - 1 };
 
-/* The dates from 15 December 2019 to 15 January 2031; how many days each begins a range of, two of them with the end before the
- * start; and how many date ranges of each kind are drawn. */
+/* The dates from 15 December 2019 to 15 January 2031, each of which starts ranges of up to 14 days, and two whose end is before
+ * it; and how many date ranges of each kind are drawn. */
 enum { STARTS = 17 + 11 * 365 + 3 + 15, MOST_DAYS = 14, ENDS = 2 + MOST_DAYS, DRAWN_LONG = 10000, DRAWN_LIMITS = 200000 };
 #define RANGES_OF_SETS (1ul * STARTS * ENDS + DRAWN_LONG)
 
@@ -96,7 +96,8 @@ static int all_trade(uint8_t markets, tc_date date) {
     return 1;
 }
 
-/* On the day that is found, which is in the range, every member trades; where none is found, on no date of the range. */
+/* On the day that is found, which is in the range, every member trades; where none is found, they do on no date of the range. The
+ * plain calendar only says which dates there are. */
 static int is_lawful(uint8_t markets, int first, int last, tc_optional_date_result answer) {
     int row = plain_row_of(answer.date);
     if (answer.found == 1) return first <= row && row <= last && all_trade(markets, answer.date);
@@ -158,7 +159,8 @@ static void every_byte(void) {
     for (uint32_t markets = 0; markets < BYTES; markets++) ask_edges_of(common_day, markets);
 }
 
-/* No set is without a day for longer than ten days, so every range that has none is among these. */
+/* No set is without a day for more than ten days on end, so every range that has none is among these, but for those with the
+ * start long after the end. */
 static void short_ranges(void) {
     int first = plain_row(2019, DEC, 15);
     for (int start = first; start < first + STARTS; start++)

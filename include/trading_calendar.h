@@ -181,8 +181,8 @@ tc_count_result tc_count_trading_days(uint32_t market, uint32_t start_year, uint
 tc_slice_result tc_slice_order(uint32_t market, uint32_t quantity, uint32_t start_year, uint32_t start_month, uint32_t start_day,
                                uint32_t end_year, uint32_t end_month, uint32_t end_day, uint32_t *out, size_t out_length);
 
-/* A day from the start to the end, both included, on which every market of the set trades; or none exactly if there is no such day,
- * also where the start is after the end. Which of several is left open: do not rely on it being the first [common-day]
+/* A day from the start to the end, both included, on which every market of the set trades; or none, found 0, exactly if there is no
+ * such day, also where the start is after the end. Which of several is left open: do not rely on it being the first [common-day]
  * [common-day-laws]. Errors: 12 market set, 5 date, 1 year as with the count. */
 tc_optional_date_result tc_common_trading_day(uint8_t markets, uint32_t start_year, uint32_t start_month, uint32_t start_day,
                                               uint32_t end_year, uint32_t end_month, uint32_t end_day);
