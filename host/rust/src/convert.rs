@@ -96,6 +96,14 @@ impl ffi::OptionalDate {
     }
 }
 
+impl ffi::OptionalDateResult {
+    pub(crate) fn answered(self) -> Result<Option<NaiveDate>> {
+        let (found, date) = (self.found, self.date);
+        let day = ffi::OptionalDate { found, date }.answered();
+        checked(self.error, 0, date, day)
+    }
+}
+
 impl ffi::BoolResult {
     pub(crate) fn answered(self) -> Result<bool> {
         checked(self.error, 0, self.date, self.value != 0)

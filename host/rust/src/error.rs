@@ -7,7 +7,7 @@ use std::fmt;
 #[derive(Debug, Clone, PartialEq, Eq)]
 pub enum CalendarError {
     /// Not every date asked for is in 2020 to 2030; with the date given, the start of a date range or the 1st of a month
-    /// `[year-check]` `[month-list]` `[count]` `[slice-order]`.
+    /// `[year-check]` `[month-list]` `[count]` `[slice-order]` `[common-day]`.
     DateOutOfRange(NaiveDate),
     /// An early close that is not before the regular end `[with-early-close]`.
     InvalidTime(String),
@@ -31,6 +31,8 @@ pub enum CalendarError {
     MalformedText,
     /// Added: there is no trading day in the date range over which an order is to be sliced `[slice-order]`.
     NoTradingDayInRange,
+    /// Added: a set of markets that is empty, or has a bit that is no market's `[market-set]`.
+    InvalidMarketSet,
 }
 
 /// The answer of a call, or its error.
@@ -51,6 +53,7 @@ impl CalendarError {
             CalendarError::BufferTooSmall(_) => 9,
             CalendarError::MalformedText => 10,
             CalendarError::NoTradingDayInRange => 11,
+            CalendarError::InvalidMarketSet => 12,
             CalendarError::InvalidConfiguration(_) => return None,
         };
         Some(number)
@@ -73,6 +76,7 @@ impl CalendarError {
             9 => CalendarError::BufferTooSmall(count as usize),
             10 => CalendarError::MalformedText,
             11 => CalendarError::NoTradingDayInRange,
+            12 => CalendarError::InvalidMarketSet,
             other => CalendarError::InvalidConfiguration(format!("the library gave error {other}")),
         }
     }
@@ -106,6 +110,9 @@ impl fmt::Display for CalendarError {
             CalendarError::NoTradingDayInRange => {
                 f.write_str("there is no trading day in the date range")
             }
+            CalendarError::InvalidMarketSet => {
+                f.write_str("the set of markets is empty, or has a bit that is no market's")
+            }
         }
     }
 }
@@ -119,10 +126,10 @@ mod tests {
     #[test]
     fn numbers_of_errors_go_both_ways_and_others_are_shown() {
         let answered = |error| CalendarError::answered(error, 0, NaiveDate::MIN.into());
-        for error in 1..=11 {
+        for error in 1..=12 {
             assert_eq!(answered(error).number(), Some(error));
         }
-        let other = CalendarError::InvalidConfiguration("the library gave error 12".to_string());
-        assert_eq!(answered(12), other);
+        let other = CalendarError::InvalidConfiguration("the library gave error 13".to_string());
+        assert_eq!(answered(13), other);
     }
 }

@@ -52,6 +52,14 @@ pub struct SliceResult {
 
 #[repr(C)]
 #[derive(Clone, Copy, Debug, Default, PartialEq, Eq)]
+pub struct OptionalDateResult {
+    pub error: u32,
+    pub found: u32,
+    pub date: Date,
+}
+
+#[repr(C)]
+#[derive(Clone, Copy, Debug, Default, PartialEq, Eq)]
 pub struct Session {
     pub start: u32,
     pub end: u32,
@@ -101,7 +109,14 @@ pub fn trading_days_in_month(market: u32, year: u32, month: u32, out: &mut [u8])
     unsafe { tc_trading_days_in_month(market, year, month, out.as_mut_ptr(), out.len()) }
 }
 
-/// Takes the start and the end as dates; the list is lent as above.
+/// Takes the start and the end as dates.
+#[inline]
+pub fn common_trading_day(markets: u8, start: Date, end: Date) -> OptionalDateResult {
+    let Date { year, month, day } = start;
+    tc_common_trading_day(markets, year, month, day, end.year, end.month, end.day)
+}
+
+/// Takes the start and the end as dates too; the list is lent as above.
 #[inline]
 pub fn slice_order(
     market: u32,
@@ -167,6 +182,15 @@ unsafe extern "C" {
         end_month: u32,
         end_day: u32,
     ) -> CountResult;
+    pub safe fn tc_common_trading_day(
+        markets: u8,
+        start_year: u32,
+        start_month: u32,
+        start_day: u32,
+        end_year: u32,
+        end_month: u32,
+        end_day: u32,
+    ) -> OptionalDateResult;
     fn tc_trading_days_in_month(
         market: u32,
         year: u32,

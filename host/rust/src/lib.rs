@@ -34,8 +34,8 @@
 //! | `MarketImpl` with the types behind it, `constants` | not there: the rules are in the library, and `trading_hours` gives the times |
 //!
 //! Added are `is_open`, `next_trading_day_with_distance`, `previous_trading_day_with_distance`, `slice_order`, `slice_order_to_vec` and
-//! `month_sheet` of a calendar, `Market::ALL` and `Market::number`, `CalendarError::number`, and `try_from` for a market from its number, a
-//! time from its second and a date from an `ffi::Date`.
+//! `month_sheet` of a calendar, `MarketSet` with its `common_trading_day`, `Market::ALL` and `Market::number`, `CalendarError::number`,
+//! and `try_from` for a market from its number, a time from its second and a date from an `ffi::Date`.
 //!
 //! Nothing here panics. A date, a time and a market are valid once they are made, so errors 5, 7 and 8 of `[errors]` come from
 //! `try_from`, and from the calls on numbers in [`ffi`].
@@ -55,6 +55,7 @@ mod date;
 pub mod error;
 #[allow(unsafe_code, missing_docs)]
 pub mod ffi;
+pub mod market_set;
 pub mod markets;
 pub mod schedule;
 pub mod sheet;
@@ -64,11 +65,12 @@ pub mod utils;
 pub use calendar::{Slices, TradingCalendar, TradingDay};
 pub use date::{NaiveDate, Weekday};
 pub use error::{CalendarError, Result};
+pub use market_set::MarketSet;
 pub use markets::Market;
 pub use schedule::{Session, TradingHours};
 pub use time::NaiveTime;
 
-/// The first year in which `is_trading_day`, `is_holiday`, `is_open`, month lists, counts and slices answer.
+/// The first year in which `is_trading_day`, `is_holiday`, `is_open`, month lists, counts, slices and common days answer.
 pub const MIN_YEAR: i32 = 2020;
 /// The last such year.
 pub const MAX_YEAR: i32 = 2030;

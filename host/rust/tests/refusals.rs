@@ -36,6 +36,10 @@ fn outside_2020_to_2030() {
     assert_eq!(slices, Err(DateOutOfRange(last)));
     let slices = nyse().slice_order_to_vec(100, after, last);
     assert_eq!(slices, Err(NoTradingDayInRange));
+    let set = MarketSet::from(Market::ALL);
+    let day = set.common_trading_day(last, after);
+    assert_eq!(day, Err(DateOutOfRange(last)));
+    assert_eq!(set.common_trading_day(after, last), Ok(None));
 }
 
 /// [month-error-date]: also for years and months that only the type of the number has.
@@ -104,10 +108,9 @@ fn a_buffer_that_is_too_small_stays_as_it_was() {
     assert_eq!(tsx.month_sheet(2022, 12).unwrap().as_bytes(), sheet);
 }
 
-/// Where an error can come with later ones, it is the first. None changes the buffer.
-#[test]
-fn errors_of_slices_in_their_order() {
-    let [no_date, before, monday, friday, saturday, after, late] = [
+/// The 29th of February 2019, which is no date; before 2020, a Monday, its Friday, its Saturday, and after 2030 two.
+fn numbers_of_dates() -> [ffi::Date; 7] {
+    [
         (2019, 2, 29),
         (2019, 1, 1),
         (2025, 3, 3),
@@ -116,7 +119,13 @@ fn errors_of_slices_in_their_order() {
         (2031, 1, 1),
         (2031, 1, 2),
     ]
-    .map(|(year, month, day)| ffi::Date { year, month, day });
+    .map(|(year, month, day)| ffi::Date { year, month, day })
+}
+
+/// Where an error can come with later ones, it is the first. None changes the buffer.
+#[test]
+fn errors_of_slices_in_their_order() {
+    let [no_date, before, monday, friday, saturday, after, late] = numbers_of_dates();
     let none = ffi::Date::default();
     let due = [
         ((5, no_date, after), (8, 0, none)),
@@ -141,8 +150,41 @@ fn errors_of_slices_in_their_order() {
     }
 }
 
+/// Sets that only the byte has, and dates that only the numbers have. On that Saturday no market trades.
+#[test]
+fn errors_of_common_days_in_their_order() {
+    let [no_date, before, monday, _, saturday, after, late] = numbers_of_dates();
+    let none = ffi::Date::default();
+    let no_set = |set: &u8| *set == 0 || set >> Market::ALL.len() != 0;
+    let (no_sets, sets): (Vec<u8>, Vec<u8>) = (0..=u8::MAX).partition(no_set);
+    assert_eq!((no_sets.len(), sets.len()), (225, 31));
+    let check = |set: u8, start, end, (error, date)| {
+        let due = ffi::OptionalDateResult {
+            error,
+            date,
+            ..Default::default()
+        };
+        let answer = ffi::common_trading_day(set, start, end);
+        assert_eq!(answer, due, "{set} {start:?} {end:?}");
+    };
+    for set in no_sets {
+        check(set, monday, monday, (12, none));
+        check(set, no_date, after, (12, none));
+        check(set, before, monday, (12, none));
+        check(set, monday, none, (12, none));
+    }
+    for set in sets {
+        check(set, no_date, after, (5, none));
+        check(set, after, no_date, (5, none));
+        check(set, late, after, (1, late));
+        check(set, before, monday, (1, before));
+        check(set, saturday, saturday, (0, none));
+        check(set, saturday, monday, (0, none));
+    }
+}
+
 /// One of each variant, from the call that gives it.
-fn one_of_each() -> [CalendarError; 12] {
+fn one_of_each() -> [CalendarError; 13] {
     let session = Session {
         start: time(9),
         end: time(16),
@@ -162,6 +204,9 @@ fn one_of_each() -> [CalendarError; 12] {
         nyse()
             .slice_order_to_vec(100, date(2025, 12, 25), date(2025, 12, 25))
             .unwrap_err(),
+        MarketSet::default()
+            .common_trading_day(date(2025, 3, 10), date(2025, 3, 10))
+            .unwrap_err(),
         "FTSE".parse::<Market>().unwrap_err(),
     ]
 }
@@ -169,11 +214,11 @@ fn one_of_each() -> [CalendarError; 12] {
 #[test]
 fn each_error_has_its_number_and_a_text_of_its_own() {
     let errors = one_of_each();
-    let due = [1, 2, 3, 4, 5, 6, 7, 8, 9, 10, 11].map(Some);
-    assert_eq!(errors.each_ref().map(CalendarError::number)[..11], due);
-    assert_eq!(errors[11].number(), None);
+    let due = [1, 2, 3, 4, 5, 6, 7, 8, 9, 10, 11, 12].map(Some);
+    assert_eq!(errors.each_ref().map(CalendarError::number)[..12], due);
+    assert_eq!(errors[12].number(), None);
     assert!(matches!(errors[3], InvalidTime(_)));
-    assert!(matches!(errors[11], InvalidConfiguration(_)));
+    assert!(matches!(errors[12], InvalidConfiguration(_)));
     let text = |error: &CalendarError| (error as &dyn Error).to_string();
     let texts: BTreeSet<String> = errors.iter().map(text).collect();
     assert_eq!(texts.len(), errors.len());

@@ -1,6 +1,9 @@
 //! Slices of orders, drawn the same in every run: they add up to the order, the first days carry one more until the remainder is
 //! spent, and nothing else is written.
 
+mod days;
+
+use days::answered_days;
 use trading_calendar::CalendarError::*;
 use trading_calendar::*;
 
@@ -114,9 +117,7 @@ impl Random {
 
     /// All of 2020 to 2030, and of its days any two, in any order, or two of the same week.
     fn ranges(&mut self) -> Vec<[NaiveDate; 2]> {
-        let first = NaiveDate::from_ymd_opt(MIN_YEAR, 1, 1);
-        let days = std::iter::successors(first, NaiveDate::succ_opt);
-        let days: Vec<_> = days.take_while(|date| date.year() <= MAX_YEAR).collect();
+        let days: Vec<_> = answered_days().collect();
         let last = days.len() - 1;
         let mut ranges = vec![[days[0], days[last]]];
         for _ in 0..DRAWN {

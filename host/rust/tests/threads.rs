@@ -1,5 +1,8 @@
 //! A calendar is shared between threads, and each gets the same answers.
 
+mod days;
+
+use days::answered_days;
 use std::sync::Arc;
 use std::thread;
 use trading_calendar::*;
@@ -10,6 +13,7 @@ const _: () = is_shared::<TradingCalendar>();
 const _: () = is_shared::<TradingHours>();
 const _: () = is_shared::<TradingDay>();
 const _: () = is_shared::<Slices>();
+const _: () = is_shared::<MarketSet>();
 
 /// The errors too, though they are not copied.
 const fn is_sent<T: Send + Sync>() {}
@@ -20,9 +24,6 @@ type Answers = Vec<(Result<bool>, Result<NaiveDate>, TradingHours)>;
 
 /// On every day of 2020 to 2030.
 fn answers(calendar: &TradingCalendar) -> Answers {
-    let first = NaiveDate::from_ymd_opt(MIN_YEAR, 1, 1);
-    let days = std::iter::successors(first, NaiveDate::succ_opt);
-    let days = days.take_while(|date| date.year() <= MAX_YEAR);
     let of_day = |date| {
         let (trades, next) = (
             calendar.is_trading_day(date),
@@ -30,7 +31,7 @@ fn answers(calendar: &TradingCalendar) -> Answers {
         );
         (trades, next, calendar.trading_hours(date))
     };
-    days.map(of_day).collect()
+    answered_days().map(of_day).collect()
 }
 
 #[test]
