@@ -1,4 +1,4 @@
-//! Inputs and answers of the calls about hours, month lists, counts and slices as lists of numbers.
+//! Inputs and answers of the calls about hours, month lists, counts, slices and common days as lists of numbers.
 
 use crate::library::*;
 use std::collections::BTreeSet;
@@ -92,6 +92,11 @@ pub fn of_slices(answer: SliceResult) -> Numbers {
         ..
     } = answer;
     vec![error, count, per_day, remainder, year, month, day]
+}
+
+pub fn of_optional_date(answer: OptionalDateResult) -> Numbers {
+    let OptionalDateResult { error, found, date } = answer;
+    vec![error, found, date.year, date.month, date.day]
 }
 
 pub fn of_time(TimeResult { error, seconds }: TimeResult) -> Numbers {

@@ -1,5 +1,6 @@
 //! The calls on any numbers at all: what the library answers, and what the original does.
 
+pub mod common_days;
 pub mod hours;
 pub mod ranges;
 pub mod sheets;

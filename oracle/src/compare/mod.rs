@@ -44,6 +44,7 @@ pub fn run() -> bool {
     let added = added::run()
         & added::ranges::run()
         & added::slices::run()
+        & added::common_days::run()
         & added::hours::run()
         & added::sheets::run();
     both.into_iter().all(|right| right) && added

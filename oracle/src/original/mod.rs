@@ -1,5 +1,6 @@
 //! The same questions to the original, and its answers in the form of the library's.
 
+pub mod common_days;
 pub mod hours;
 pub mod ranges;
 pub mod sheets;
