@@ -15,6 +15,12 @@ fn main() {
     println!("cargo:rustc-check-cfg=cfg(quantlib)");
     link("fill_o2", "src/bench/fill.c", &["cc", "-O2", "-DLEVEL=2"]);
     link("fill_o3", "src/bench/fill.c", &["cc", "-O3", "-DLEVEL=3"]);
+    link(
+        "common_day",
+        "src/bench/common_day.c",
+        &["cc", "-O3", "-I../include"],
+    );
+    println!("cargo:rerun-if-changed=../include/trading_calendar.h");
     if std::env::var("ORACLE_QUANTLIB").is_ok_and(|version| !version.is_empty()) {
         link_quantlib();
     }

@@ -8,6 +8,7 @@
 //! original. What the original allocates is freed in the loop. What the loop itself takes is in the times of both sides, and
 //! printed first.
 
+mod common_days;
 mod dates;
 mod days;
 mod filling;
@@ -39,6 +40,7 @@ pub fn run(rounds: usize) -> bool {
     ranges::run(&mut report);
     slices::run(&mut report);
     filling::run(rounds);
+    common_days::run(&mut report);
     sessions::run(&mut report);
     hours::run(&mut report, &days);
     sheets::run(&mut report);

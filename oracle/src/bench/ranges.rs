@@ -36,7 +36,7 @@ impl Ranges {
         ]
     }
 
-    fn new<T>(title: &'static str, ranges: impl Iterator<Item = T>) -> Ranges
+    pub fn new<T>(title: &'static str, ranges: impl Iterator<Item = T>) -> Ranges
     where
         T: Iterator<Item = (Date, NaiveDate)>,
     {
@@ -51,7 +51,7 @@ impl Ranges {
 
 fn ends(mut days: impl Iterator<Item = (Date, NaiveDate)>) -> ([Date; 2], [NaiveDate; 2]) {
     let first = days.next().expect("a day");
-    let last = days.last().expect("a second day");
+    let last = days.last().unwrap_or(first);
     ([first.0, last.0], [first.1, last.1])
 }
 

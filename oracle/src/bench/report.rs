@@ -11,7 +11,7 @@ pub struct Report {
     pub tables: Vec<Table>,
 }
 
-/// One pair for each market, or one alone if the call takes no market.
+/// One pair for each market, or one alone if the call takes no market or a set of them.
 pub struct Table {
     pub call: &'static str,
     pub inputs: String,
