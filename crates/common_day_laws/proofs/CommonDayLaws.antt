@@ -64,7 +64,10 @@ module _ (market : ℕ) (t : Date) (known : isMarket market ≡ true) (d : isDat
 
 -- the set and the day numbers of both dates
 module _ (markets : ℕ) (start end : Date) (a b : ℕ) (set : isMarketSet markets ≡ true) (c : CheckedRange start end a b) where
-  -- a day of the range as a date
+  -- a date of the range as a day, and a day of it as a date
+  as-day : (t : Date) → InRange start end t → (a ≤ number t) × (number t ≤ b)
+  as-day t i = (omega (arith, i .from, c .numbers), omega (arith, i .to, c .numbers))
+
   day-in-range : (n : ℕ) → a ≤ n → n ≤ b → InRange start end (dateOf n)
   day-in-range n l h =
       let low = c .same .low in
@@ -95,10 +98,6 @@ module _ (markets : ℕ) (start end : Date) (a b : ℕ) (set : isMarketSet marke
 
   common : (t : Date) → InRange start end t → AllTrade markets t → isCommonTradingDay markets (number t) ≡ true
   common t i h = is-common markets (number t) (λ market known m. said-yes market t known (i .is-date) (supported t i) (h market m))
-
-  -- every date of the range is one of its days, and so has what they have
-  as-day : (t : Date) → InRange start end t → (a ≤ number t) × (number t ≤ b)
-  as-day t i = (omega (arith, i .from, c .numbers), omega (arith, i .to, c .numbers))
 
   -- ---- an answer by its day
 

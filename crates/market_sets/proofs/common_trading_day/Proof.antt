@@ -1,5 +1,6 @@
 -- `market_sets::common_trading_day` meets its contract: the first common day past the checks, and an error stays.
 use mathlib.Core.Path.{_≡_, sym, _∙_}
+use native.Mathlib.Omega.{arith}
 use borrow.Author.Needs.{needs}
 use Rattle.checks.specs.declared.RangeResult.{RangeResult}
 use Rattle.checks.proofs.CheckLaws.{past-range, past-range-error, range-checked}
@@ -13,7 +14,7 @@ range : (c : tie.After-first) → (let a = c .before .before .before .args in Ra
 range c = sym (c .first .given .1) ∙ c .before .before .checked-set-range .ensures
 
 first-common-day-requires : tie.Need-first-common-day-requires
-first-common-day-requires c κs = let r = range-checked _ _ _ _ (set-checked _ _ _ _ _ (sym (range (c .before))) .1) in (r .same, r .in-years .1)
+first-common-day-requires c κs = let r = range-checked _ _ _ _ (set-checked _ _ _ _ _ (sym (range (c .before))) .1) in (r .same, omega (arith, r .in-years))
 
 returns : tie.Need-returns
 returns c = past-range _ _ _ _ _ _ (range (c .before .before)) (c .first-common-day .ensures)
