@@ -1,7 +1,7 @@
 -- The laws of the checks for their callers: what is known past each, where each finds no error, and what follows it.
 -- Assumes nothing.
 use Prim.Native.Nat.{ℕ, _≤_, _<_}
-use mathlib.Core.Path.{_≡_, refl, sym, ap, _∙_}
+use mathlib.Core.Path.{_≡_, refl, sym, ap, ap₂, _∙_}
 use mathlib.Core.Bool.{Bool, true, false, cond, not, _||_}
 use lib.Dec.{ltb, leb, lit≤}
 use native.Mathlib.Omega.{arith}
@@ -20,8 +20,10 @@ use Rattle.error.specs.declared.CalendarError.{CalendarError}
 use Rattle.error.specs.declared.CalendarError.the-variants.{TimeOutOfRange, DateOutOfRange, BufferTooSmall}
 use Rattle.checks.specs.declared.DayResult.{DayResult}
 use Rattle.checks.specs.declared.MonthCheck.{MonthCheck}
+use Rattle.checks.specs.declared.RangeCheck.{RangeCheck}
 use Rattle.checks.specs.declared.RangeResult.{RangeResult}
 use Rattle.checks.specs.Checks.{checkedDay, tryDay, supportedDay, isMonth, checkedMonth, tryMonth, leavesYears, checkedRange, tryRange, checkedRoom}
+use Rattle.checks.specs.Inner.{rangeCheck}
 
 -- Where a ladder comes to no error, its first test found none, and the rest comes to none.
 module _ {A : Type 0} (failed : A → Bool) (ok : A) (h : failed ok ≡ false) where
@@ -185,6 +187,21 @@ module _ (start end : Date) where
         same = same-day (start .year) (start .month) (start .day) a s i;
         in-years = (omega (arith, i, number-range (start .year) (start .month) (start .day) s), omega (arith, k, number-range (end .year) (end .month) (end .day) e));
       }
+
+  -- by the check without the day numbers: these are the numbers of the dates; or its error
+  pub range-past : RangeCheck.Ok ≡ rangeCheck (checkedRange start end) → checkedRange start end ≡ RangeResult.Ok (number start) (number end)
+  range-past q = by (checkedRange start end) refl q
+    where
+      by : (c : RangeResult) → checkedRange start end ≡ c → RangeCheck.Ok ≡ rangeCheck c → checkedRange start end ≡ RangeResult.Ok (number start) (number end)
+      by (RangeResult.Ok a b) e p = let n = range-checked a b e .numbers in e ∙ ap₂ RangeResult.Ok (n .0) (n .1)
+      by (RangeResult.Err d) e p = absurd (let z : _≡_ {A = ℕ} 0 1 = cc in omega arith)
+
+  pub range-not-past : (e : CalendarError) → RangeCheck.Err e ≡ rangeCheck (checkedRange start end) → RangeResult.Err e ≡ checkedRange start end
+  range-not-past e q = by (checkedRange start end) q
+    where
+      by : (c : RangeResult) → RangeCheck.Err e ≡ rangeCheck c → RangeResult.Err e ≡ c
+      by (RangeResult.Ok a b) p = absurd (let z : _≡_ {A = ℕ} 0 1 = cc in omega arith)
+      by (RangeResult.Err d) p = cc
 
 -- ---- a buffer
 

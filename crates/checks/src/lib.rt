@@ -1,8 +1,10 @@
 // The checks of the numbers that calls are given, each one ladder of tests: the first error of [errors] that applies decides.
 ghost use mathlib.Core.Path.{_≡_};
 ghost use Prim.Native.Nat.{_<_, _^_};
+ghost use Rattle.gregorian.specs.Calendar.{isDateOf};
 ghost use Rattle.checks.specs.Checks.{isTime, checkedDay, supportedDay, isMonth, monthErrorDate, checkedMonth};
 ghost use Rattle.checks.specs.Checks.{leavesYears, checkedRange, checkedRoom};
+ghost use Rattle.checks.specs.Inner.{rangeCheck};
 use error::CalendarError;
 use error::CountResult;
 use gregorian::Date;
@@ -112,6 +114,12 @@ pub fn checked_month(market: u32, year: u32, month: u32) -> MonthCheck
     MonthCheck::Ok
 }
 
+// Whether the dates of a range are past their check, or its error.
+pub enum RangeCheck {
+    Ok,
+    Err(CalendarError),
+}
+
 // Two day numbers, or the error of a check.
 pub enum RangeResult {
     Ok { start: u32, end: u32 },
@@ -125,27 +133,41 @@ fn leaves_years(start_year: u32, end_year: u32) -> bool
     (start_year < MIN_YEAR) | (MAX_YEAR < end_year)
 }
 
-// [count]: errors 5 for the start, 5 for the end, and 1 with the start. A market is checked before.
+// [count]: errors 5 for the start, 5 for the end, and 1 with the start. A market, or a set of them, is checked before. Whether these are
+// dates is handed over, so that the ladder is small enough to stand in each call that goes by it.
+pub fn range_check(starts: bool, ends: bool, start: Date, end: Date) -> RangeCheck
+    requires { ⌜ (starts ≡ isDateOf start) × (ends ≡ isDateOf end) ⌝ }
+    ensures { λ r. ⌜ r ≡ rangeCheck (checkedRange start end) ⌝ }
+{
+    let leaves_years = leaves_years(start.year, end.year);
+    if !starts {
+        return RangeCheck::Err(CalendarError::InvalidDate);
+    }
+    if !ends {
+        return RangeCheck::Err(CalendarError::InvalidDate);
+    }
+    if leaves_years {
+        return RangeCheck::Err(CalendarError::DateOutOfRange(start));
+    }
+    RangeCheck::Ok
+}
+
+// The same, with the day numbers.
 pub fn checked_range(start: Date, end: Date) -> RangeResult
     ensures { λ r. ⌜ r ≡ checkedRange start end ⌝ }
 {
     let starts = is_date(start.year, start.month, start.day);
     let ends = is_date(end.year, end.month, end.day);
-    let leaves_years = leaves_years(start.year, end.year);
-    if !starts {
-        return RangeResult::Err(CalendarError::InvalidDate);
-    }
-    if !ends {
-        return RangeResult::Err(CalendarError::InvalidDate);
-    }
-    if leaves_years {
-        return RangeResult::Err(CalendarError::DateOutOfRange(start));
-    }
-    let first = day_number(start.year, start.month, start.day);
-    let last = day_number(end.year, end.month, end.day);
-    RangeResult::Ok {
-        start: first,
-        end: last,
+    match range_check(starts, ends, start, end) {
+        RangeCheck::Ok => {
+            let first = day_number(start.year, start.month, start.day);
+            let last = day_number(end.year, end.month, end.day);
+            RangeResult::Ok {
+                start: first,
+                end: last,
+            }
+        }
+        RangeCheck::Err(e) => RangeResult::Err(e),
     }
 }
 

@@ -4,15 +4,18 @@ ghost use Prim.Native.Nat.{_≤_, _<_};
 ghost use Rattle.gregorian.specs.Calendar.{lastDay};
 ghost use Rattle.gregorian.specs.Inner.{SameDay};
 ghost use Rattle.ranges.specs.Ranges.{days, find};
-ghost use Rattle.market_sets.specs.MarketSets.{hasMarket, isMarketSet, isCommonTradingDay, checkedSetRange, foundOn};
+ghost use Rattle.market_sets.specs.MarketSets.{hasMarket, isMarketSet, isCommonTradingDay, foundOn};
 ghost use Rattle.market_sets.specs.Inner.{firstCommonDayResult};
-use checks::RangeResult;
-use checks::checked_range;
+use checks::RangeCheck;
+use checks::range_check;
 use error::CalendarError;
 use error::OptionalDateResult;
 use gregorian::Date;
+use gregorian::day_number;
 use gregorian::days::CalendarDay;
+use gregorian::days::calendar_day;
 use gregorian::days::day_after;
+use gregorian::is_date;
 use markets::LAST_MARKET;
 use markets::is_trading_day;
 
@@ -64,31 +67,22 @@ fn first_common_day(markets: u8, first: CalendarDay, last: u32) -> OptionalDateR
     OptionalDateResult::None
 }
 
-// Error 12, and then those of the dates.
-fn checked_set_range(markets: u8, start: Date, end: Date) -> RangeResult
-    ensures { λ r. ⌜ r ≡ checkedSetRange markets start end ⌝ }
-{
-    if !is_market_set(markets) {
-        return RangeResult::Err(CalendarError::InvalidMarketSet);
-    }
-    checked_range(start, end)
-}
-
-// [common-day]: the first day of the range on which every market of the set trades, or the first of errors 12, 5 and 1 that applies.
+// [common-day]: the first such day from the start to the end, or the first of errors 12, 5 and 1 that applies.
 pub fn common_trading_day(markets: u8, start: Date, end: Date) -> OptionalDateResult
     ensures { λ r. ⌜ r ≡ firstCommonDayResult markets start end ⌝ }
 {
-    match checked_set_range(markets, start, end) {
-        RangeResult::Ok {
-            start: first,
-            end: last,
-        } => {
-            let from = CalendarDay {
-                number: first,
-                date: start,
-            };
-            first_common_day(markets, from, last)
+    let is_set = is_market_set(markets);
+    let starts = is_date(start.year, start.month, start.day);
+    let ends = is_date(end.year, end.month, end.day);
+    if !is_set {
+        return OptionalDateResult::Err(CalendarError::InvalidMarketSet);
+    }
+    match range_check(starts, ends, start, end) {
+        RangeCheck::Ok => {
+            let first = calendar_day(start.year, start.month, start.day);
+            let last = day_number(end.year, end.month, end.day);
+            first_common_day(markets, first, last)
         }
-        RangeResult::Err(e) => OptionalDateResult::Err(e),
+        RangeCheck::Err(e) => OptionalDateResult::Err(e),
     }
 }

@@ -1,56 +1,33 @@
--- `checks::checked_range` meets its contract.
+-- `checks::checked_range` meets its contract: the day numbers past the check, and an error stays.
 use mathlib.Core.Path.{_≡_, ap₂, sym, _∙_}
-use mathlib.Core.Bool.{Bool, true}
-use borrow.Author.Tests.{not-true, not-false}
 use borrow.Author.Needs.{needs}
-use Rattle.gregorian.specs.Calendar.{isDateOf}
-use Rattle.error.specs.declared.CalendarError.the-variants.{DateOutOfRange}
+use Rattle.gregorian.specs.Calendar.{number}
 use Rattle.checks.specs.declared.RangeResult.{RangeResult}
-use Rattle.checks.specs.Checks.{leavesYears, checkedRange}
+use Rattle.checks.specs.Checks.{checkedRange}
+use Rattle.checks.proofs.CheckLaws.{range-checked, range-past, range-not-past}
 use Rattle.checks.proofs.checked_range.Statement.{statement}
 use Rattle.checks.proofs.checked_range.Tie as tie
 
-start : (c : tie.Else1) → isDateOf (c .before .before .before .before .args .start) ≡ true
-start c = sym (c .before .before .before .is-date .ensures) ∙ not-false _ (c .if1 .left)
+range-check-requires : tie.Need-range-check-requires
+range-check-requires c κs = (c .before .is-date .ensures, c .is-date2 .ensures)
 
-end : (c : tie.Else2) → isDateOf (c .before .before .before .before .before .args .end) ≡ true
-end c = sym (c .before .before .before .is-date2 .ensures) ∙ not-false _ (c .if2 .left)
-
--- past both dates, by the years
-module _ (c : tie.Else2) where
-  abbrev s : tie.Start
-  s = c .before .before .before .before .before
-
-  years : (b : Bool) → c .before .before .leaves-years .result ≡ b → leavesYears (s .args .start .year) (s .args .end .year) ≡ b
-  years b e = sym (c .before .before .leaves-years .ensures) ∙ e
-
-  error-1 : leavesYears (s .args .start .year) (s .args .end .year) ≡ true → checkedRange (s .args .start) (s .args .end) ≡ RangeResult.Err (DateOutOfRange (s .args .start))
-  unfolding checkedRange
-  error-1 o = simp (start (c .before), end c, o)
-
-returns : tie.Need-returns
-unfolding checkedRange
-returns c = simp (sym (c .before .before .before .is-date .ensures) ∙ not-true _ (c .if1 .taken))
-
-returns-2 : tie.Need-returns-2
-unfolding checkedRange
-returns-2 c = simp (start (c .before), sym (c .before .before .before .is-date2 .ensures) ∙ not-true _ (c .if2 .taken))
-
-returns-3 : tie.Need-returns-3
-returns-3 c = sym (error-1 (c .before) (years (c .before) _ (c .if3 .taken)))
+-- both are dates past the check
+past : (c : tie.After-enum-told) → (let a = c .before .before .before .before .before .args in checkedRange (a .start) (a .end) ≡ RangeResult.Ok (number (a .start)) (number (a .end)))
+past c = range-past _ _ (sym (c .enum-told .given .1) ∙ c .before .before .range-check .ensures)
 
 day-number-requires : tie.Need-day-number-requires
-day-number-requires c κs = start (c .before .before)
+day-number-requires c κs = range-checked _ _ _ _ (past c) .start-date
 
 day-number-requires-2 : tie.Need-day-number-requires-2
-day-number-requires-2 c κs = end (c .before .before)
+day-number-requires-2 c κs = range-checked _ _ _ _ (past (c .before)) .end-date
 
-returns-4 : tie.Need-returns-4
-unfolding checkedRange
-returns-4 c =
-    let e = c .before .before in
-    simp (start (e .before .before), end (e .before), years (e .before) _ (e .if3 .left)) (ap₂ RangeResult.Ok (c .before .day-number .ensures) (c .day-number2 .ensures))
+returns : tie.Need-returns
+returns c = ap₂ RangeResult.Ok (c .before .day-number .ensures) (c .day-number2 .ensures) ∙ sym (past (c .before .before))
+
+returns-2 : tie.Need-returns-2
+returns-2 c = range-not-past _ _ _ (sym (c .before .e .given .1) ∙ c .before .before .before .range-check .ensures)
 
 pub checked-range-spec : {M : Type 1} → statement M
 checked-range-spec =
-    tie.close (tie.spec (search needs) (search needs) (search needs) returns returns-2 returns-3 day-number-requires day-number-requires-2 returns-4)
+    tie.close
+    (tie.spec (search needs) (search needs) range-check-requires (search needs) day-number-requires day-number-requires-2 (search needs) returns returns-2)
