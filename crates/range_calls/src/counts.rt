@@ -7,14 +7,16 @@ ghost use Rattle.trading_days.specs.Month.{monthList};
 ghost use Rattle.checks.specs.Checks.{checkedRoom, finalBuffer};
 ghost use Rattle.range_calls.specs.RangeCalls.{tradingDaysInMonthResult, tradingDaysInMonthBuffer, countTradingDaysResult};
 use checks::MonthCheck;
-use checks::RangeResult;
+use checks::RangeCheck;
 use checks::checked_month;
-use checks::checked_range;
 use checks::checked_room;
+use checks::range_check;
 use error::CalendarError;
 use error::CountResult;
 use gregorian::Date;
-use gregorian::days::CalendarDay;
+use gregorian::day_number;
+use gregorian::days::calendar_day;
+use gregorian::is_date;
 use trading_days::LONGEST_MONTH;
 
 // The list of a month that is past its check: how many days were written, or error 9.
@@ -60,24 +62,24 @@ pub fn count_trading_days(
     if !markets::is_market(market) {
         return CountResult::Err(CalendarError::UnknownMarket);
     }
-    let first = Date {
+    let start = Date {
         year: start_year,
         month: start_month,
         day: start_day,
     };
-    let last = Date {
+    let end = Date {
         year: end_year,
         month: end_month,
         day: end_day,
     };
-    match checked_range(first, last) {
-        RangeResult::Ok { start, end } => {
-            let first_day = CalendarDay {
-                number: start,
-                date: first,
-            };
-            CountResult::Ok(trading_days::count(market, first_day, end))
+    let starts = is_date(start_year, start_month, start_day);
+    let ends = is_date(end_year, end_month, end_day);
+    match range_check(starts, ends, start, end) {
+        RangeCheck::Ok => {
+            let first = calendar_day(start_year, start_month, start_day);
+            let last = day_number(end_year, end_month, end_day);
+            CountResult::Ok(trading_days::count(market, first, last))
         }
-        RangeResult::Err(e) => CountResult::Err(e),
+        RangeCheck::Err(e) => CountResult::Err(e),
     }
 }
