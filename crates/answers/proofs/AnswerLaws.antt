@@ -19,8 +19,7 @@ use Rattle.error.specs.declared.CalendarError.the-variants.{InvalidMarketSet, N
 use Rattle.error.specs.Errors.{errorFields}
 use Rattle.error.proofs.ErrorLaws.{error-number}
 use Rattle.answers.specs.declared.counts.CountAnswer.{CountAnswer}
-use Rattle.checks.specs.declared.RangeResult.{RangeResult}
-use Rattle.checks.specs.Checks.{tryRange}
+use Rattle.checks.specs.Checks.{RangeResult, tryRange}
 use Rattle.market_sets.specs.MarketSets.{isCommonTradingDay, checkedSetRange, foundOn}
 use Rattle.market_sets.specs.Inner.{firstCommonDayResult}
 use Rattle.orders.specs.declared.SliceResult.{SliceResult}

@@ -5,7 +5,7 @@ use Rattle.gregorian.specs.declared.Date.{Date}
 use Rattle.utils.specs.declared.OptionalDay.{OptionalDay}
 use Rattle.ranges.specs.Ranges.{SomeTradingDay}
 use Rattle.error.specs.declared.OptionalDateResult.{OptionalDateResult}
-use Rattle.checks.specs.declared.RangeResult.{RangeResult}
+use Rattle.checks.specs.Checks.{RangeResult}
 use Rattle.market_sets.specs.MarketSets.{isCommonTradingDay, checkedSetRange, foundOn}
 use Rattle.answers.specs.declared.optional_dates.OptionalDateAnswer.{OptionalDateAnswer}
 use Rattle.answers.specs.Answers.{optionalDateAnswer}

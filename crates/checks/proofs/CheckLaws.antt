@@ -19,10 +19,8 @@ use Rattle.error.specs.declared.CountResult.{CountResult}
 use Rattle.error.specs.declared.CalendarError.{CalendarError}
 use Rattle.error.specs.declared.CalendarError.the-variants.{TimeOutOfRange, DateOutOfRange, BufferTooSmall}
 use Rattle.checks.specs.declared.DayResult.{DayResult}
-use Rattle.checks.specs.declared.MonthCheck.{MonthCheck}
-use Rattle.checks.specs.declared.RangeCheck.{RangeCheck}
-use Rattle.checks.specs.declared.RangeResult.{RangeResult}
-use Rattle.checks.specs.Checks.{checkedDay, tryDay, supportedDay, isMonth, checkedMonth, tryMonth, leavesYears, checkedRange, tryRange, checkedRoom}
+use Rattle.checks.specs.declared.Check.{Check}
+use Rattle.checks.specs.Checks.{RangeResult, checkedDay, tryDay, supportedDay, isMonth, checkedMonth, tryMonth, leavesYears, checkedRange, tryRange, checkedRoom}
 use Rattle.checks.specs.Inner.{rangeCheck}
 
 -- Where a ladder comes to no error, its first test found none, and the rest comes to none.
@@ -109,19 +107,19 @@ pub record CheckedMonth (market year month : ℕ) : Type 0 where
   pub first-date : isDate year month 1 ≡ true
 
 module _ (market year month : ℕ) where
-  pub month-passes : isMarket market ≡ true → isSupported year ≡ true → 1 ≤ month → month ≤ 12 → checkedMonth market year month ≡ MonthCheck.Ok
+  pub month-passes : isMarket market ≡ true → isSupported year ≡ true → 1 ≤ month → month ≤ 12 → checkedMonth market year month ≡ Check.Ok
   unfolding checkedMonth isMonth
   month-passes k s l u = simp (k, s, le-leb 1 month l, le-leb month 12 u)
 
-  abbrev failed-month : MonthCheck → Bool
+  abbrev failed-month : Check → Bool
   failed-month r = tryMonth r (λ e. true) false
 
-  pub month-checked : checkedMonth market year month ≡ MonthCheck.Ok → CheckedMonth market year month
+  pub month-checked : checkedMonth market year month ≡ Check.Ok → CheckedMonth market year month
   unfolding checkedMonth isMonth
   month-checked q =
-      let past₈ = passed failed-month MonthCheck.Ok refl (not (isMarket market)) _ _ refl q in
-      let past₁ = passed failed-month MonthCheck.Ok refl (not (isSupported year)) _ _ refl (past₈ .1) in
-      let past₂ = passed failed-month MonthCheck.Ok refl (not (isMonth month)) _ _ refl (past₁ .1) in
+      let past₈ = passed failed-month Check.Ok refl (not (isMarket market)) _ _ refl q in
+      let past₁ = passed failed-month Check.Ok refl (not (isSupported year)) _ _ refl (past₈ .1) in
+      let past₂ = passed failed-month Check.Ok refl (not (isMonth month)) _ _ refl (past₁ .1) in
       let s = not-false _ (past₁ .0) in
       let m = not-false _ (past₂ .0) in
       let l = leb-true 1 month (and-left (leb 1 month) _ m) in
@@ -189,17 +187,22 @@ module _ (start end : Date) where
       }
 
   -- by the check without the day numbers: these are the numbers of the dates; or its error
-  pub range-past : RangeCheck.Ok ≡ rangeCheck (checkedRange start end) → checkedRange start end ≡ RangeResult.Ok (number start) (number end)
+  pub range-past : Check.Ok ≡ rangeCheck (checkedRange start end)
+      → (checkedRange start end ≡ RangeResult.Ok (number start) (number end)) × CheckedRange start end (number start) (number end)
   range-past q = by (checkedRange start end) refl q
     where
-      by : (c : RangeResult) → checkedRange start end ≡ c → RangeCheck.Ok ≡ rangeCheck c → checkedRange start end ≡ RangeResult.Ok (number start) (number end)
-      by (RangeResult.Ok a b) e p = let n = range-checked a b e .numbers in e ∙ ap₂ RangeResult.Ok (n .0) (n .1)
+      by : (c : RangeResult) → checkedRange start end ≡ c → Check.Ok ≡ rangeCheck c
+          → (checkedRange start end ≡ RangeResult.Ok (number start) (number end)) × CheckedRange start end (number start) (number end)
+      by (RangeResult.Ok a b) e p =
+          let n = range-checked a b e .numbers in
+          let ok = e ∙ ap₂ RangeResult.Ok (n .0) (n .1) in
+          (ok, range-checked (number start) (number end) ok)
       by (RangeResult.Err d) e p = absurd (let z : _≡_ {A = ℕ} 0 1 = cc in omega arith)
 
-  pub range-not-past : (e : CalendarError) → RangeCheck.Err e ≡ rangeCheck (checkedRange start end) → RangeResult.Err e ≡ checkedRange start end
+  pub range-not-past : (e : CalendarError) → Check.Err e ≡ rangeCheck (checkedRange start end) → RangeResult.Err e ≡ checkedRange start end
   range-not-past e q = by (checkedRange start end) q
     where
-      by : (c : RangeResult) → RangeCheck.Err e ≡ rangeCheck c → RangeResult.Err e ≡ c
+      by : (c : RangeResult) → Check.Err e ≡ rangeCheck c → RangeResult.Err e ≡ c
       by (RangeResult.Ok a b) p = absurd (let z : _≡_ {A = ℕ} 0 1 = cc in omega arith)
       by (RangeResult.Err d) p = cc
 

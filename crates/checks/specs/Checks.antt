@@ -13,8 +13,7 @@ use Rattle.error.specs.declared.CountResult.{CountResult}
 use Rattle.error.specs.declared.CalendarError.{CalendarError}
 use Rattle.error.specs.declared.CalendarError.the-variants.{UnknownMarket, InvalidDate, TimeOutOfRange, DateOutOfRange, InvalidDateCalculation, BufferTooSmall}
 use Rattle.checks.specs.declared.DayResult.{DayResult}
-use Rattle.checks.specs.declared.MonthCheck.{MonthCheck}
-use Rattle.checks.specs.declared.RangeResult.{RangeResult}
+use Rattle.checks.specs.declared.Check.{Check}
 
 -- [time]: a second of the day
 unfoldable pub isTime : ℕ → Bool
@@ -53,23 +52,28 @@ unfoldable pub monthErrorDate : ℕ → ℕ → Date
 monthErrorDate year month = cond (isDate year month 1) (date year month 1) (date 1970 1 1)
 
 -- errors 8, 1 and 2
-unfoldable pub checkedMonth : ℕ → ℕ → ℕ → MonthCheck
+unfoldable pub checkedMonth : ℕ → ℕ → ℕ → Check
 checkedMonth market year month =
-    cond (not (isMarket market)) (MonthCheck.Err UnknownMarket)
-    (cond (not (isSupported year)) (MonthCheck.Err (DateOutOfRange (monthErrorDate year month)))
-    (cond (not (isMonth month)) (MonthCheck.Err InvalidDateCalculation)
-    MonthCheck.Ok))
+    cond (not (isMarket market)) (Check.Err UnknownMarket)
+    (cond (not (isSupported year)) (Check.Err (DateOutOfRange (monthErrorDate year month)))
+    (cond (not (isMonth month)) (Check.Err InvalidDateCalculation)
+    Check.Ok))
 
 -- `?`, as for a day
-abbrev pub tryMonth : {A : Type 0} → MonthCheck → (CalendarError → A) → A → A
-tryMonth MonthCheck.Ok error rest = rest
-tryMonth (MonthCheck.Err e) error rest = error e
+abbrev pub tryMonth : {A : Type 0} → Check → (CalendarError → A) → A → A
+tryMonth Check.Ok error rest = rest
+tryMonth (Check.Err e) error rest = error e
 
 -- ---- a range of dates
 
 -- [count]: the rule of the years, by the start's and the end's
 unfoldable pub leavesYears : ℕ → ℕ → Bool
 leavesYears startYear endYear = ltb startYear minYear || ltb maxYear endYear
+
+-- two day numbers, or the error of a check
+pub data RangeResult : Type 0 where
+  Ok : ℕ → ℕ → RangeResult
+  Err : CalendarError → RangeResult
 
 -- [count]: errors 5 for the start, 5 for the end, and 1 with the start, or both day numbers. A market is checked before.
 unfoldable pub checkedRange : Date → Date → RangeResult

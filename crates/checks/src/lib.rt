@@ -90,40 +90,28 @@ fn month_error_date(year: u32, month: u32) -> Date
     }
 }
 
-// Whether a month is past its check, or its error.
-pub enum MonthCheck {
+// Whether a month, or the dates of a range, are past their check, or its error.
+pub enum Check {
     Ok,
     Err(CalendarError),
 }
 
 // Errors 8, 1 and 2.
-pub fn checked_month(market: u32, year: u32, month: u32) -> MonthCheck
+pub fn checked_month(market: u32, year: u32, month: u32) -> Check
     ensures { λ r. ⌜ r ≡ checkedMonth market year month ⌝ }
 {
     let is_supported = is_supported(year);
     let is_month = is_month(month);
     if !is_market(market) {
-        return MonthCheck::Err(CalendarError::UnknownMarket);
+        return Check::Err(CalendarError::UnknownMarket);
     }
     if !is_supported {
-        return MonthCheck::Err(CalendarError::DateOutOfRange(month_error_date(year, month)));
+        return Check::Err(CalendarError::DateOutOfRange(month_error_date(year, month)));
     }
     if !is_month {
-        return MonthCheck::Err(CalendarError::InvalidDateCalculation);
+        return Check::Err(CalendarError::InvalidDateCalculation);
     }
-    MonthCheck::Ok
-}
-
-// Whether the dates of a range are past their check, or its error.
-pub enum RangeCheck {
-    Ok,
-    Err(CalendarError),
-}
-
-// Two day numbers, or the error of a check.
-pub enum RangeResult {
-    Ok { start: u32, end: u32 },
-    Err(CalendarError),
+    Check::Ok
 }
 
 // [count]: whether the start is before the supported years, or the end after them.
@@ -133,42 +121,23 @@ fn leaves_years(start_year: u32, end_year: u32) -> bool
     (start_year < MIN_YEAR) | (MAX_YEAR < end_year)
 }
 
-// [count]: errors 5 for the start, 5 for the end, and 1 with the start. A market, or a set of them, is checked before. Whether these are
-// dates is handed over, so that the ladder is small enough to stand in each call that goes by it.
-pub fn range_check(starts: bool, ends: bool, start: Date, end: Date) -> RangeCheck
+// [count]: errors 5 for the start, 5 for the end, and 1 with the start. A market, or a set of them, is checked before. Whether they are
+// dates is handed over: so the ladder is small, and stands in each call without a call.
+pub fn range_check(starts: bool, ends: bool, start: Date, end: Date) -> Check
     requires { ⌜ (starts ≡ isDateOf start) × (ends ≡ isDateOf end) ⌝ }
     ensures { λ r. ⌜ r ≡ rangeCheck (checkedRange start end) ⌝ }
 {
     let leaves_years = leaves_years(start.year, end.year);
     if !starts {
-        return RangeCheck::Err(CalendarError::InvalidDate);
+        return Check::Err(CalendarError::InvalidDate);
     }
     if !ends {
-        return RangeCheck::Err(CalendarError::InvalidDate);
+        return Check::Err(CalendarError::InvalidDate);
     }
     if leaves_years {
-        return RangeCheck::Err(CalendarError::DateOutOfRange(start));
+        return Check::Err(CalendarError::DateOutOfRange(start));
     }
-    RangeCheck::Ok
-}
-
-// The same, with the day numbers.
-pub fn checked_range(start: Date, end: Date) -> RangeResult
-    ensures { λ r. ⌜ r ≡ checkedRange start end ⌝ }
-{
-    let starts = is_date(start.year, start.month, start.day);
-    let ends = is_date(end.year, end.month, end.day);
-    match range_check(starts, ends, start, end) {
-        RangeCheck::Ok => {
-            let first = day_number(start.year, start.month, start.day);
-            let last = day_number(end.year, end.month, end.day);
-            RangeResult::Ok {
-                start: first,
-                end: last,
-            }
-        }
-        RangeCheck::Err(e) => RangeResult::Err(e),
-    }
+    Check::Ok
 }
 
 // Error 9, or how many entries are written.

@@ -21,8 +21,7 @@ use Rattle.error.specs.declared.BoolResult.{BoolResult}
 use Rattle.error.specs.declared.CountResult.{CountResult}
 use Rattle.error.specs.declared.CalendarError.the-variants.{InvalidMarketSet}
 use Rattle.error.specs.declared.OptionalDateResult.{OptionalDateResult}
-use Rattle.checks.specs.declared.RangeResult.{RangeResult}
-use Rattle.checks.specs.Checks.{checkedRange, tryRange}
+use Rattle.checks.specs.Checks.{RangeResult, checkedRange, tryRange}
 use Rattle.checks.proofs.CheckLaws.{CheckedRange, range-checked, supported-passes}
 use Rattle.range_calls.proofs.CountLaws.{count-of-dates}
 use Rattle.market_sets.specs.MarketSets.{isMarketSet, isCommonTradingDay, checkedSetRange, foundOn}

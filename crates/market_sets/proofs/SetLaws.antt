@@ -20,8 +20,7 @@ use Rattle.utils.specs.declared.OptionalDay.the-variants.{Day}
 use Rattle.markets.specs.Markets.{holidaysByCode, isMarket, isTradingDay}
 use Rattle.ranges.proofs.Lists.{test, order, clash}
 use Rattle.error.specs.declared.OptionalDateResult.{OptionalDateResult}
-use Rattle.checks.specs.declared.RangeResult.{RangeResult}
-use Rattle.checks.specs.Checks.{checkedRange}
+use Rattle.checks.specs.Checks.{RangeResult, checkedRange}
 use Rattle.checks.proofs.CheckLaws.{passed, failed-range}
 use Rattle.error.specs.declared.CalendarError.the-variants.{InvalidMarketSet}
 use Rattle.market_sets.specs.MarketSets.{hasMarket, isMarketSet, allBelow, isCommonTradingDay, checkedSetRange, foundOn}

@@ -11,8 +11,7 @@ use Rattle.utils.specs.declared.OptionalDay.the-variants.{Day, None}
 use Rattle.markets.specs.Markets.{holidaysByCode, isTradingDay}
 use Rattle.error.specs.declared.OptionalDateResult.{OptionalDateResult}
 use Rattle.error.specs.declared.CalendarError.the-variants.{InvalidMarketSet}
-use Rattle.checks.specs.declared.RangeResult.{RangeResult}
-use Rattle.checks.specs.Checks.{checkedRange}
+use Rattle.checks.specs.Checks.{RangeResult, checkedRange}
 
 -- ---- the set
 

@@ -6,7 +6,7 @@ ghost use Rattle.gregorian.specs.Inner.{SameDay};
 ghost use Rattle.ranges.specs.Ranges.{days, find};
 ghost use Rattle.market_sets.specs.MarketSets.{hasMarket, isMarketSet, isCommonTradingDay, foundOn};
 ghost use Rattle.market_sets.specs.Inner.{firstCommonDayResult};
-use checks::RangeCheck;
+use checks::Check;
 use checks::range_check;
 use error::CalendarError;
 use error::OptionalDateResult;
@@ -78,11 +78,11 @@ pub fn common_trading_day(markets: u8, start: Date, end: Date) -> OptionalDateRe
         return OptionalDateResult::Err(CalendarError::InvalidMarketSet);
     }
     match range_check(starts, ends, start, end) {
-        RangeCheck::Ok => {
+        Check::Ok => {
             let first = calendar_day(start.year, start.month, start.day);
             let last = day_number(end.year, end.month, end.day);
             first_common_day(markets, first, last)
         }
-        RangeCheck::Err(e) => OptionalDateResult::Err(e),
+        Check::Err(e) => OptionalDateResult::Err(e),
     }
 }

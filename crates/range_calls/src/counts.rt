@@ -6,8 +6,7 @@ ghost use Rattle.gregorian.specs.Calendar.{isDate};
 ghost use Rattle.trading_days.specs.Month.{monthList};
 ghost use Rattle.checks.specs.Checks.{checkedRoom, finalBuffer};
 ghost use Rattle.range_calls.specs.RangeCalls.{tradingDaysInMonthResult, tradingDaysInMonthBuffer, countTradingDaysResult};
-use checks::MonthCheck;
-use checks::RangeCheck;
+use checks::Check;
 use checks::checked_month;
 use checks::checked_room;
 use checks::range_check;
@@ -42,8 +41,8 @@ pub fn trading_days_in_month(market: u32, year: u32, month: u32, out: &mut [u8])
         × (now (out .exit) ≡ tradingDaysInMonthBuffer market year month (now (out .entry))) ⌝ }
 {
     match checked_month(market, year, month) {
-        MonthCheck::Ok => write_days(market, year, month, out),
-        MonthCheck::Err(e) => CountResult::Err(e),
+        Check::Ok => write_days(market, year, month, out),
+        Check::Err(e) => CountResult::Err(e),
     }
 }
 
@@ -59,9 +58,7 @@ pub fn count_trading_days(
 ) -> CountResult
     ensures { λ r. ⌜ r ≡ countTradingDaysResult market «start_year» «start_month» «start_day» «end_year» «end_month» «end_day» ⌝ }
 {
-    if !markets::is_market(market) {
-        return CountResult::Err(CalendarError::UnknownMarket);
-    }
+    let is_market = markets::is_market(market);
     let start = Date {
         year: start_year,
         month: start_month,
@@ -74,12 +71,15 @@ pub fn count_trading_days(
     };
     let starts = is_date(start_year, start_month, start_day);
     let ends = is_date(end_year, end_month, end_day);
+    if !is_market {
+        return CountResult::Err(CalendarError::UnknownMarket);
+    }
     match range_check(starts, ends, start, end) {
-        RangeCheck::Ok => {
+        Check::Ok => {
             let first = calendar_day(start_year, start_month, start_day);
             let last = day_number(end_year, end_month, end_day);
             CountResult::Ok(trading_days::count(market, first, last))
         }
-        RangeCheck::Err(e) => CountResult::Err(e),
+        Check::Err(e) => CountResult::Err(e),
     }
 }

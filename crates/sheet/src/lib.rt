@@ -5,7 +5,7 @@ ghost use lib.ListN.{length};
 ghost use Rattle.checks.specs.Checks.{checkedRoom, finalBuffer};
 ghost use Rattle.sheet_lines.specs.Sheet.{sheetText};
 ghost use Rattle.sheet.specs.SheetCall.{sheetOfMonth, sheetWritten, sheetBuffer, monthSheetResult, monthSheetBuffer};
-use checks::MonthCheck;
+use checks::Check;
 use checks::checked_month;
 use checks::checked_room;
 use error::CalendarError;
@@ -38,12 +38,12 @@ fn sheet_of_month(market: u32, year: u32, month: u32, out: &mut [u8]) -> CountRe
         × (now (out .exit) ≡ sheetBuffer (sheetOfMonth market year month) (now (out .entry))) ⌝ }
 {
     match checked_month(market, year, month) {
-        MonthCheck::Ok => {
+        Check::Ok => {
             let mut days = [0; LONGEST_MONTH];
             let count = trading_days::month_days(market, year, month, &mut days);
             write_fitting(market, year, month, &days[0..count], out)
         }
-        MonthCheck::Err(e) => CountResult::Err(e),
+        Check::Err(e) => CountResult::Err(e),
     }
 }
 

@@ -7,7 +7,7 @@ use Rattle.gregorian.specs.declared.Date.{Date}
 use Rattle.markets.specs.Markets.{isMarket}
 use Rattle.markets.specs.Years.{isSupported}
 use Rattle.error.specs.declared.CalendarError.the-variants.{DateOutOfRange}
-use Rattle.checks.specs.declared.MonthCheck.{MonthCheck}
+use Rattle.checks.specs.declared.Check.{Check}
 use Rattle.checks.specs.Checks.{checkedMonth}
 use Rattle.checks.proofs.checked_month.Statement.{statement}
 use Rattle.checks.proofs.checked_month.Tie as tie
@@ -27,7 +27,7 @@ unfolding checkedMonth
 returns-2 c =
     let s = c .before .before in
     let none : isSupported (s .before .before .before .before .args .year) ≡ false = sym (s .before .before .before .is-supported .ensures) ∙ not-true _ (c .before .if2 .taken) in
-    ap (λ (t : Date). MonthCheck.Err (DateOutOfRange t)) (c .month-error-date .ensures) ∙ simp (known s, none)
+    ap (λ (t : Date). Check.Err (DateOutOfRange t)) (c .month-error-date .ensures) ∙ simp (known s, none)
 
 returns-3 : tie.Need-returns-3
 unfolding checkedMonth

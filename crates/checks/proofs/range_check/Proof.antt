@@ -5,8 +5,7 @@ use borrow.Author.Tests.{not-true, not-false}
 use borrow.Author.Needs.{needs}
 use Rattle.gregorian.specs.Calendar.{isDateOf}
 use Rattle.error.specs.declared.CalendarError.the-variants.{DateOutOfRange}
-use Rattle.checks.specs.declared.RangeResult.{RangeResult}
-use Rattle.checks.specs.Checks.{leavesYears, checkedRange}
+use Rattle.checks.specs.Checks.{RangeResult, leavesYears, checkedRange}
 use Rattle.checks.specs.Inner.{rangeCheck}
 use Rattle.checks.proofs.range_check.Statement.{statement}
 use Rattle.checks.proofs.range_check.Tie as tie

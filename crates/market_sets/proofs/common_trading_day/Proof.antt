@@ -8,51 +8,46 @@ use borrow.Author.Needs.{needs}
 use Rattle.gregorian.specs.Calendar.{number}
 use Rattle.ranges.specs.Ranges.{days, find}
 use Rattle.error.specs.declared.OptionalDateResult.{OptionalDateResult}
-use Rattle.checks.specs.declared.RangeResult.{RangeResult}
-use Rattle.checks.specs.Checks.{checkedRange}
-use Rattle.checks.proofs.CheckLaws.{CheckedRange, past-range, past-range-error, range-checked, range-past, range-not-past}
+use Rattle.checks.specs.Checks.{RangeResult, checkedRange}
+use Rattle.checks.proofs.CheckLaws.{CheckedRange, past-range, past-range-error, range-past, range-not-past}
 use Rattle.market_sets.specs.MarketSets.{isMarketSet, isCommonTradingDay, foundOn}
 use Rattle.market_sets.proofs.SetLaws.{set-passes, no-set}
 use Rattle.market_sets.proofs.common_trading_day.Statement.{statement}
 use Rattle.market_sets.proofs.common_trading_day.Tie as tie
 
-returns : tie.Need-returns
-returns c =
-    past-range-error _ _ _ _ (sym (no-set _ _ _ (sym (c .before .before .before .is-market-set .ensures) ∙ not-true _ (c .if1 .taken))))
-
 -- the set is one
 set : (c : tie.Else1) → isMarketSet (c .before .before .before .before .args .markets) ≡ true
 set c = sym (c .before .before .before .is-market-set .ensures) ∙ not-false _ (c .if1 .left)
+
+returns : tie.Need-returns
+returns c =
+    past-range-error _ _ _ _ (sym (no-set _ _ _ (sym (c .before .before .before .is-market-set .ensures) ∙ not-true _ (c .if1 .taken))))
 
 range-check-requires : tie.Need-range-check-requires
 range-check-requires c κs = (c .before .before .is-date .ensures, c .before .is-date2 .ensures)
 
 -- past the check of the dates
-module _ (c : tie.After-enum-told) where
-  abbrev start : tie.Start
-  start = c .before .before .before .before .before .before .before
+abbrev start : tie.After-enum-told → tie.Start
+start c = c .before .before .before .before .before .before .before
 
-  past : (let a = start .args in checkedRange (a .start) (a .end) ≡ RangeResult.Ok (number (a .start)) (number (a .end)))
-  past = range-past _ _ (sym (c .enum-told .given .1) ∙ c .before .before .range-check .ensures)
-
-  checked : (let a = start .args in CheckedRange (a .start) (a .end) (number (a .start)) (number (a .end)))
-  checked = range-checked _ _ _ _ past
+past : (c : tie.After-enum-told) → (let a = start c .args in (checkedRange (a .start) (a .end) ≡ RangeResult.Ok (number (a .start)) (number (a .end))) × CheckedRange (a .start) (a .end) (number (a .start)) (number (a .end)))
+past c = range-past _ _ (sym (c .enum-told .given .1) ∙ c .before .before .range-check .ensures)
 
 calendar-day-requires : tie.Need-calendar-day-requires
-calendar-day-requires c κs = checked c .start-date
+calendar-day-requires c κs = past c .1 .start-date
 
 day-number-requires : tie.Need-day-number-requires
-day-number-requires c κs = checked (c .before) .end-date
+day-number-requires c κs = past (c .before) .1 .end-date
 
 first-common-day-requires : tie.Need-first-common-day-requires
-first-common-day-requires c κs = (c .before .calendar-day .ensures .0, omega (arith, c .day-number .ensures, checked (c .before .before) .in-years))
+first-common-day-requires c κs = (c .before .calendar-day .ensures .0, omega (arith, c .day-number .ensures, past (c .before .before) .1 .in-years))
 
 returns-2 : tie.Need-returns-2
 returns-2 c =
     let d = c .before .before .before in
     let e = d .before .before .before in
     let found : ℕ → ℕ → OptionalDateResult = λ a b. foundOn (find (isCommonTradingDay (start d .args .markets)) (days a b)) in
-    past-range _ _ _ _ _ _ (sym (set-passes _ _ _ (set e) ∙ past d))
+    past-range _ _ _ _ _ _ (sym (set-passes _ _ _ (set e) ∙ past d .0))
     (c .first-common-day .ensures ∙ ap₂ found (c .before .before .calendar-day .ensures .1) (c .before .day-number .ensures))
 
 returns-3 : tie.Need-returns-3

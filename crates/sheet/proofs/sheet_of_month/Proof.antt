@@ -7,14 +7,14 @@ use native.Mathlib.Omega.{arith}
 use borrow.Author.Needs.{needs}
 use Rattle.trading_days.specs.Month.{monthList}
 use Rattle.trading_days.proofs.MonthDayLaws.{list-length, in-array, listed}
-use Rattle.checks.specs.declared.MonthCheck.{MonthCheck}
+use Rattle.checks.specs.declared.Check.{Check}
 use Rattle.checks.specs.Checks.{checkedMonth}
 use Rattle.checks.proofs.CheckLaws.{month-checked}
 use Rattle.sheet.proofs.SheetCallLaws.{sheet-by-check, sheet-written}
 use Rattle.sheet.proofs.sheet_of_month.Statement.{statement}
 use Rattle.sheet.proofs.sheet_of_month.Tie as tie
 
-checked : (c : tie.After-enum-told) → (let a = c .before .before .before .before .args in checkedMonth (a .market) (a .year) (a .month) ≡ MonthCheck.Ok)
+checked : (c : tie.After-enum-told) → (let a = c .before .before .before .before .args in checkedMonth (a .market) (a .year) (a .month) ≡ Check.Ok)
 checked c = sym (c .before .before .checked-month .ensures) ∙ c .enum-told .given .1
 
 month-days-requires : tie.Need-month-days-requires
