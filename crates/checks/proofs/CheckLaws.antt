@@ -21,7 +21,7 @@ use Rattle.error.specs.declared.CalendarError.the-variants.{TimeOutOfRange, Dat
 use Rattle.checks.specs.declared.DayResult.{DayResult}
 use Rattle.checks.specs.declared.Check.{Check}
 use Rattle.checks.specs.Checks.{RangeResult, checkedDay, tryDay, supportedDay, isMonth, checkedMonth, tryMonth, leavesYears, checkedRange, tryRange, checkedRoom}
-use Rattle.checks.specs.Inner.{rangeCheck}
+use Rattle.checks.specs.Inner.{checkOf}
 
 -- Where a ladder comes to no error, its first test found none, and the rest comes to none.
 module _ {A : Type 0} (failed : A → Bool) (ok : A) (h : failed ok ≡ false) where
@@ -187,11 +187,11 @@ module _ (start end : Date) where
       }
 
   -- by the check without the day numbers: these are the numbers of the dates; or its error
-  pub range-past : Check.Ok ≡ rangeCheck (checkedRange start end)
+  pub check-passed : Check.Ok ≡ checkOf (checkedRange start end)
       → (checkedRange start end ≡ RangeResult.Ok (number start) (number end)) × CheckedRange start end (number start) (number end)
-  range-past q = by (checkedRange start end) refl q
+  check-passed q = by (checkedRange start end) refl q
     where
-      by : (c : RangeResult) → checkedRange start end ≡ c → Check.Ok ≡ rangeCheck c
+      by : (c : RangeResult) → checkedRange start end ≡ c → Check.Ok ≡ checkOf c
           → (checkedRange start end ≡ RangeResult.Ok (number start) (number end)) × CheckedRange start end (number start) (number end)
       by (RangeResult.Ok a b) e p =
           let n = range-checked a b e .numbers in
@@ -199,10 +199,10 @@ module _ (start end : Date) where
           (ok, range-checked (number start) (number end) ok)
       by (RangeResult.Err d) e p = absurd (let z : _≡_ {A = ℕ} 0 1 = cc in omega arith)
 
-  pub range-not-past : (e : CalendarError) → Check.Err e ≡ rangeCheck (checkedRange start end) → RangeResult.Err e ≡ checkedRange start end
-  range-not-past e q = by (checkedRange start end) q
+  pub check-failed : (e : CalendarError) → Check.Err e ≡ checkOf (checkedRange start end) → RangeResult.Err e ≡ checkedRange start end
+  check-failed e q = by (checkedRange start end) q
     where
-      by : (c : RangeResult) → Check.Err e ≡ rangeCheck c → RangeResult.Err e ≡ c
+      by : (c : RangeResult) → Check.Err e ≡ checkOf c → RangeResult.Err e ≡ c
       by (RangeResult.Ok a b) p = absurd (let z : _≡_ {A = ℕ} 0 1 = cc in omega arith)
       by (RangeResult.Err d) p = cc
 

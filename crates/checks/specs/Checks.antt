@@ -70,12 +70,13 @@ tryMonth (Check.Err e) error rest = error e
 unfoldable pub leavesYears : ℕ → ℕ → Bool
 leavesYears startYear endYear = ltb startYear minYear || ltb maxYear endYear
 
--- two day numbers, or the error of a check
+-- the day numbers of the start and the end, or the error of a check
 pub data RangeResult : Type 0 where
   Ok : ℕ → ℕ → RangeResult
   Err : CalendarError → RangeResult
 
--- [count]: errors 5 for the start, 5 for the end, and 1 with the start, or both day numbers. A market is checked before.
+-- [count]: errors 5 for the start, 5 for the end, and 1 with the start, or both day numbers. A market, or a set of
+-- them, is checked before.
 unfoldable pub checkedRange : Date → Date → RangeResult
 checkedRange start end =
     cond (not (isDateOf start)) (RangeResult.Err InvalidDate)

@@ -4,7 +4,7 @@ ghost use Prim.Native.Nat.{_<_, _^_};
 ghost use Rattle.gregorian.specs.Calendar.{isDateOf};
 ghost use Rattle.checks.specs.Checks.{isTime, checkedDay, supportedDay, isMonth, monthErrorDate, checkedMonth};
 ghost use Rattle.checks.specs.Checks.{leavesYears, checkedRange, checkedRoom};
-ghost use Rattle.checks.specs.Inner.{rangeCheck};
+ghost use Rattle.checks.specs.Inner.{checkOf};
 use error::CalendarError;
 use error::CountResult;
 use gregorian::Date;
@@ -90,7 +90,7 @@ fn month_error_date(year: u32, month: u32) -> Date
     }
 }
 
-// Whether a month, or the dates of a range, are past their check, or its error.
+// Past a check, or its error.
 pub enum Check {
     Ok,
     Err(CalendarError),
@@ -121,11 +121,11 @@ fn leaves_years(start_year: u32, end_year: u32) -> bool
     (start_year < MIN_YEAR) | (MAX_YEAR < end_year)
 }
 
-// [count]: errors 5 for the start, 5 for the end, and 1 with the start. A market, or a set of them, is checked before. Whether they are
-// dates is handed over: so the ladder is small, and stands in each call without a call.
-pub fn range_check(starts: bool, ends: bool, start: Date, end: Date) -> Check
+// [count]: errors 5 for the start, 5 for the end, and 1 with the start. A market, or a set of them, is checked before. Whether start and
+// end are dates is handed over, so that this is small enough to be inlined in each call.
+pub fn checked_range(starts: bool, ends: bool, start: Date, end: Date) -> Check
     requires { ⌜ (starts ≡ isDateOf start) × (ends ≡ isDateOf end) ⌝ }
-    ensures { λ r. ⌜ r ≡ rangeCheck (checkedRange start end) ⌝ }
+    ensures { λ r. ⌜ r ≡ checkOf (checkedRange start end) ⌝ }
 {
     let leaves_years = leaves_years(start.year, end.year);
     if !starts {

@@ -18,12 +18,13 @@ use Rattle.gregorian.proofs.Tests.{and-left, and-right}
 use Rattle.utils.specs.declared.OptionalDay.{OptionalDay}
 use Rattle.utils.specs.declared.OptionalDay.the-variants.{Day}
 use Rattle.markets.specs.Markets.{holidaysByCode, isMarket, isTradingDay}
+use Rattle.ranges.specs.Ranges.{daysFrom, sumOf}
 use Rattle.ranges.proofs.Lists.{test, order, clash}
 use Rattle.error.specs.declared.OptionalDateResult.{OptionalDateResult}
 use Rattle.checks.specs.Checks.{RangeResult, checkedRange}
 use Rattle.checks.proofs.CheckLaws.{passed, failed-range}
 use Rattle.error.specs.declared.CalendarError.the-variants.{InvalidMarketSet}
-use Rattle.market_sets.specs.MarketSets.{hasMarket, isMarketSet, allBelow, isCommonTradingDay, checkedSetRange, foundOn}
+use Rattle.market_sets.specs.MarketSets.{hasMarket, isMarketSet, allBelow, tradesIfMember, isCommonTradingDay, checkedSetRange, foundOn}
 
 -- ---- every number below one
 
@@ -75,6 +76,20 @@ member-is-market markets market s h =
     (λ (l : market < length holidaysByCode). lt-ltb market (length holidaysByCode) l)
     (order (length holidaysByCode) market)
 
+-- A set is the sum of the bits of its markets: a computed test of all sets.
+abbrev isSumOfBits : ℕ → Bool
+isSumOfBits markets = eqb markets (sumOf (λ market. cond (hasMarket markets market) (2 ^ market) 0) (daysFrom 0 (length holidaysByCode)))
+
+summed : allBelow (2 ^ length holidaysByCode) isSumOfBits ≡ true
+unfolding allBelow hasMarket daysFrom
+summed = refl
+
+pub sum-of-bits : (markets : ℕ) → isMarketSet markets ≡ true → markets ≡ sumOf (λ market. cond (hasMarket markets market) (2 ^ market) 0) (daysFrom 0 (length holidaysByCode))
+unfolding isMarketSet
+sum-of-bits markets s =
+    let below = ltb-true markets (2 ^ length holidaysByCode) (and-right (leb 1 markets) _ s) in
+    eqb-true markets _ (below-at isSumOfBits (2 ^ length holidaysByCode) summed markets below)
+
 -- One market is a set, and has the bit of that market and no other: a computed test of any two.
 pub one-market-set : (market : ℕ) → isMarket market ≡ true → isMarketSet (2 ^ market) ≡ true
 unfolding isMarketSet
@@ -98,9 +113,8 @@ one-bit market k m l =
 -- ---- the days of a set
 
 module _ (markets n : ℕ) where
-  -- the market is not in the set, or it trades
-  abbrev pub passes : ℕ → Bool
-  passes market = not (hasMarket markets market) || isTradingDay market n
+  abbrev passes : ℕ → Bool
+  passes = tradesIfMember markets n
 
   pub no-member : (market : ℕ) → hasMarket markets market ≡ false → passes market ≡ true
   no-member market h = simp h

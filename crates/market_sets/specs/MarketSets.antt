@@ -19,7 +19,7 @@ use Rattle.checks.specs.Checks.{RangeResult, checkedRange}
 unfoldable pub hasMarket : ℕ → ℕ → Bool
 hasMarket markets market = eqb (markets / 2 ^ market % 2) 1
 
--- [market-set]: it is not empty, and has no bit above that of the last market
+-- [market-set]: a byte that is a set: it is not empty, and has no bit above that of the last market
 unfoldable pub isMarketSet : ℕ → Bool
 isMarketSet markets = leb 1 markets && ltb markets (2 ^ length holidaysByCode)
 
@@ -30,9 +30,13 @@ unfoldable pub allBelow : ℕ → (ℕ → Bool) → Bool
 allBelow zero test = true
 allBelow (suc k) test = allBelow k test && test k
 
--- [common-day]: every market of the set trades on day n; of each market, it is not in the set or it trades
+-- the market is not in the set, or it trades on day n
+abbrev pub tradesIfMember : ℕ → ℕ → ℕ → Bool
+tradesIfMember markets n market = not (hasMarket markets market) || isTradingDay market n
+
+-- [common-day]: every market of the set trades on day n
 unfoldable pub isCommonTradingDay : ℕ → ℕ → Bool
-isCommonTradingDay markets n = allBelow (length holidaysByCode) (λ market. not (hasMarket markets market) || isTradingDay market n)
+isCommonTradingDay markets n = allBelow (length holidaysByCode) (tradesIfMember markets n)
 
 -- ---- the call
 

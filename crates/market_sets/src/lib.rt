@@ -7,7 +7,7 @@ ghost use Rattle.ranges.specs.Ranges.{days, find};
 ghost use Rattle.market_sets.specs.MarketSets.{hasMarket, isMarketSet, isCommonTradingDay, foundOn};
 ghost use Rattle.market_sets.specs.Inner.{firstCommonDayResult};
 use checks::Check;
-use checks::range_check;
+use checks::checked_range;
 use error::CalendarError;
 use error::OptionalDateResult;
 use gregorian::Date;
@@ -29,6 +29,7 @@ fn is_market_set(markets: u8) -> bool
     (1 <= markets) & (markets < SETS_END)
 }
 
+// [market-set]: whether the bit of the market is 1.
 fn has_market(markets: u8, market: u32) -> bool
     requires { ⌜ market < 8 ⌝ }
     ensures { λ r. ⌜ r ≡ hasMarket markets market ⌝ }
@@ -72,12 +73,13 @@ pub fn common_trading_day(markets: u8, start: Date, end: Date) -> OptionalDateRe
     ensures { λ r. ⌜ r ≡ firstCommonDayResult markets start end ⌝ }
 {
     let is_set = is_market_set(markets);
+    // The dates are asked about first; the order of the errors is that of the tests.
     let starts = is_date(start.year, start.month, start.day);
     let ends = is_date(end.year, end.month, end.day);
     if !is_set {
         return OptionalDateResult::Err(CalendarError::InvalidMarketSet);
     }
-    match range_check(starts, ends, start, end) {
+    match checked_range(starts, ends, start, end) {
         Check::Ok => {
             let first = calendar_day(start.year, start.month, start.day);
             let last = day_number(end.year, end.month, end.day);

@@ -8,8 +8,8 @@ ghost use Rattle.checks.specs.Checks.{checkedRoom, finalBuffer};
 ghost use Rattle.range_calls.specs.RangeCalls.{tradingDaysInMonthResult, tradingDaysInMonthBuffer, countTradingDaysResult};
 use checks::Check;
 use checks::checked_month;
+use checks::checked_range;
 use checks::checked_room;
-use checks::range_check;
 use error::CalendarError;
 use error::CountResult;
 use gregorian::Date;
@@ -69,12 +69,13 @@ pub fn count_trading_days(
         month: end_month,
         day: end_day,
     };
+    // The dates are asked about first, for the registers of the count; the order of the errors is that of the tests.
     let starts = is_date(start_year, start_month, start_day);
     let ends = is_date(end_year, end_month, end_day);
     if !is_market {
         return CountResult::Err(CalendarError::UnknownMarket);
     }
-    match range_check(starts, ends, start, end) {
+    match checked_range(starts, ends, start, end) {
         Check::Ok => {
             let first = calendar_day(start_year, start_month, start_day);
             let last = day_number(end_year, end_month, end_day);

@@ -9,7 +9,7 @@ use Rattle.gregorian.specs.Calendar.{number}
 use Rattle.ranges.specs.Ranges.{days, find}
 use Rattle.error.specs.declared.OptionalDateResult.{OptionalDateResult}
 use Rattle.checks.specs.Checks.{RangeResult, checkedRange}
-use Rattle.checks.proofs.CheckLaws.{CheckedRange, past-range, past-range-error, range-past, range-not-past}
+use Rattle.checks.proofs.CheckLaws.{CheckedRange, past-range, past-range-error, check-passed, check-failed}
 use Rattle.market_sets.specs.MarketSets.{isMarketSet, isCommonTradingDay, foundOn}
 use Rattle.market_sets.proofs.SetLaws.{set-passes, no-set}
 use Rattle.market_sets.proofs.common_trading_day.Statement.{statement}
@@ -23,15 +23,15 @@ returns : tie.Need-returns
 returns c =
     past-range-error _ _ _ _ (sym (no-set _ _ _ (sym (c .before .before .before .is-market-set .ensures) ∙ not-true _ (c .if1 .taken))))
 
-range-check-requires : tie.Need-range-check-requires
-range-check-requires c κs = (c .before .before .is-date .ensures, c .before .is-date2 .ensures)
+checked-range-requires : tie.Need-checked-range-requires
+checked-range-requires c κs = (c .before .before .is-date .ensures, c .before .is-date2 .ensures)
 
 -- past the check of the dates
 abbrev start : tie.After-enum-told → tie.Start
 start c = c .before .before .before .before .before .before .before
 
 past : (c : tie.After-enum-told) → (let a = start c .args in (checkedRange (a .start) (a .end) ≡ RangeResult.Ok (number (a .start)) (number (a .end))) × CheckedRange (a .start) (a .end) (number (a .start)) (number (a .end)))
-past c = range-past _ _ (sym (c .enum-told .given .1) ∙ c .before .before .range-check .ensures)
+past c = check-passed _ _ (sym (c .enum-told .given .1) ∙ c .before .before .checked-range .ensures)
 
 calendar-day-requires : tie.Need-calendar-day-requires
 calendar-day-requires c κs = past c .1 .start-date
@@ -53,10 +53,10 @@ returns-2 c =
 returns-3 : tie.Need-returns-3
 returns-3 c =
     let s = c .before .before .before in
-    past-range-error _ _ _ _ (range-not-past _ _ _ (sym (c .before .e .given .1) ∙ s .range-check .ensures) ∙ sym (set-passes _ _ _ (set (s .before))))
+    past-range-error _ _ _ _ (check-failed _ _ _ (sym (c .before .e .given .1) ∙ s .checked-range .ensures) ∙ sym (set-passes _ _ _ (set (s .before))))
 
 pub common-trading-day-spec : {M : Type 1} → statement M
 common-trading-day-spec =
     tie.close
-    (tie.spec (search needs) (search needs) (search needs) returns range-check-requires (search needs) calendar-day-requires day-number-requires first-common-day-requires (search needs)
+    (tie.spec (search needs) (search needs) (search needs) returns checked-range-requires (search needs) calendar-day-requires day-number-requires first-common-day-requires (search needs)
     returns-2 returns-3)

@@ -7,14 +7,14 @@ use lib.ListN.{length}
 use native.Mathlib.Omega.{arith}
 use borrow.Author.Tests.{not-true, not-false}
 use Rattle.markets.specs.Markets.{holidaysByCode}
-use Rattle.market_sets.specs.MarketSets.{allBelow}
-use Rattle.market_sets.proofs.SetLaws.{passes, none-below, one-more-below, no-member, trading-member, all-pass, one-closed}
+use Rattle.market_sets.specs.MarketSets.{allBelow, tradesIfMember}
+use Rattle.market_sets.proofs.SetLaws.{none-below, one-more-below, no-member, trading-member, all-pass, one-closed}
 use Rattle.market_sets.proofs.is_common_trading_day.Statement.{statement}
 use Rattle.market_sets.proofs.is_common_trading_day.Tie as tie
 
 -- the markets so far are not in the set, or they trade
 abbrev Inv-loop : tie.InvT-loop
-Inv-loop markets day market₀ market = (market ≤ length holidaysByCode) × (allBelow market (passes markets (day .number)) ≡ true)
+Inv-loop markets day market₀ market = (market ≤ length holidaysByCode) × (allBelow market (tradesIfMember markets (day .number)) ≡ true)
 
 -- the markets left
 abbrev μ-loop : tie.MeasureT-loop
@@ -49,7 +49,7 @@ loop-again c =
     let a = s .before .args in
     let market = s .loop .market in
     let asked = sym (c .before .has-market .ensures) in
-    let one-more = one-more-below (passes (a .markets) (a .day .number)) market (s .loop .inv .1) in (
+    let one-more = one-more-below (tradesIfMember (a .markets) (a .day .number)) market (s .loop .inv .1) in (
       omega arith,
       ⊎-elim (λ w. one-more (trading-member (a .markets) (a .day .number) market (asked ∙ w .0 .taken) (sym (w .1 .ensures) ∙ not-false _ (w .2 .left))))
           (λ w. one-more (no-member (a .markets) (a .day .number) market (asked ∙ w .left)))
@@ -61,7 +61,7 @@ returns-2 c =
     let s = c .before in
     let a = s .before .args in
     let all : s .loop .market ≡ length holidaysByCode = omega (arith, s .loop .inv .0) in
-    sym (all-pass (a .markets) (a .day .number) (ap (λ (k : ℕ). allBelow k (passes (a .markets) (a .day .number))) (sym all) ∙ s .loop .inv .1))
+    sym (all-pass (a .markets) (a .day .number) (ap (λ (k : ℕ). allBelow k (tradesIfMember (a .markets) (a .day .number))) (sym all) ∙ s .loop .inv .1))
 
 pub is-common-trading-day-spec : {M : Type 1} → statement M
 is-common-trading-day-spec =

@@ -11,7 +11,7 @@ use Rattle.markets.specs.Markets.{isMarket, isTradingDay}
 use Rattle.ranges.specs.Ranges.{countTradingDays}
 use Rattle.error.specs.declared.CountResult.{CountResult}
 use Rattle.checks.specs.Checks.{RangeResult, checkedRange}
-use Rattle.checks.proofs.CheckLaws.{CheckedRange, past-range, past-range-error, range-past, range-not-past}
+use Rattle.checks.proofs.CheckLaws.{CheckedRange, past-range, past-range-error, check-passed, check-failed}
 use Rattle.range_calls.proofs.counts.count_trading_days.Statement.{statement}
 use Rattle.range_calls.proofs.counts.count_trading_days.Tie as tie
 
@@ -21,8 +21,8 @@ known c = sym (c .before .before .before .is-market .ensures) ∙ not-false _ (c
 returns : tie.Need-returns
 returns c = simp (sym (c .before .before .before .is-market .ensures) ∙ not-true _ (c .if1 .taken))
 
-range-check-requires : tie.Need-range-check-requires
-range-check-requires c κs = (c .before .before .is-date .ensures, c .before .is-date2 .ensures)
+checked-range-requires : tie.Need-checked-range-requires
+checked-range-requires c κs = (c .before .before .is-date .ensures, c .before .is-date2 .ensures)
 
 -- past the check of the dates
 module _ (c : tie.After-enum-told) where
@@ -36,7 +36,7 @@ module _ (c : tie.After-enum-told) where
   end = let a = s .args in date (a .end-year) (a .end-month) (a .end-day)
 
   past : (checkedRange start end ≡ RangeResult.Ok (number start) (number end)) × CheckedRange start end (number start) (number end)
-  past = range-past _ _ (sym (c .enum-told .given .1) ∙ c .before .before .range-check .ensures)
+  past = check-passed _ _ (sym (c .enum-told .given .1) ∙ c .before .before .checked-range .ensures)
 
 calendar-day-requires : tie.Need-calendar-day-requires
 calendar-day-requires c κs = past c .1 .start-date
@@ -58,10 +58,10 @@ returns-2 c =
 returns-3 : tie.Need-returns-3
 returns-3 c =
     let r = c .before .before .before in
-    simp (known (r .before)) (past-range-error _ _ _ _ (range-not-past _ _ _ (sym (c .before .e .given .1) ∙ r .range-check .ensures)))
+    simp (known (r .before)) (past-range-error _ _ _ _ (check-failed _ _ _ (sym (c .before .e .given .1) ∙ r .checked-range .ensures)))
 
 pub count-trading-days-spec : {M : Type 1} → statement M
 count-trading-days-spec =
     tie.close
-    (tie.spec (search needs) (search needs) (search needs) returns range-check-requires (search needs) calendar-day-requires day-number-requires count-requires (search needs) returns-2
+    (tie.spec (search needs) (search needs) (search needs) returns checked-range-requires (search needs) calendar-day-requires day-number-requires count-requires (search needs) returns-2
     returns-3)

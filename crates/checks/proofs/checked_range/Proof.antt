@@ -1,4 +1,4 @@
--- `checks::range_check` meets its contract: each rung of the ladder.
+-- `checks::checked_range` meets its contract: each rung of the ladder.
 use mathlib.Core.Path.{_≡_, sym, ap, _∙_}
 use mathlib.Core.Bool.{Bool, true}
 use borrow.Author.Tests.{not-true, not-false}
@@ -6,9 +6,9 @@ use borrow.Author.Needs.{needs}
 use Rattle.gregorian.specs.Calendar.{isDateOf}
 use Rattle.error.specs.declared.CalendarError.the-variants.{DateOutOfRange}
 use Rattle.checks.specs.Checks.{RangeResult, leavesYears, checkedRange}
-use Rattle.checks.specs.Inner.{rangeCheck}
-use Rattle.checks.proofs.range_check.Statement.{statement}
-use Rattle.checks.proofs.range_check.Tie as tie
+use Rattle.checks.specs.Inner.{checkOf}
+use Rattle.checks.proofs.checked_range.Statement.{statement}
+use Rattle.checks.proofs.checked_range.Tie as tie
 
 start : (c : tie.Else1) → isDateOf (c .before .before .args .start) ≡ true
 start c = sym (c .before .before .pre .0) ∙ not-false _ (c .if1 .left)
@@ -37,11 +37,11 @@ unfolding checkedRange
 returns-2 c = simp (start (c .before), sym (c .before .before .before .pre .1) ∙ not-true _ (c .if2 .taken))
 
 returns-3 : tie.Need-returns-3
-returns-3 c = ap rangeCheck (sym (error-1 (c .before) (years (c .before) _ (c .if3 .taken))))
+returns-3 c = ap checkOf (sym (error-1 (c .before) (years (c .before) _ (c .if3 .taken))))
 
 returns-4 : tie.Need-returns-4
 unfolding checkedRange
 returns-4 c = simp (start (c .before .before), end (c .before), years (c .before) _ (c .if3 .left))
 
-pub range-check-spec : {M : Type 1} → statement M
-range-check-spec = tie.close (tie.spec (search needs) returns returns-2 returns-3 returns-4)
+pub checked-range-spec : {M : Type 1} → statement M
+checked-range-spec = tie.close (tie.spec (search needs) returns returns-2 returns-3 returns-4)
