@@ -3,12 +3,13 @@
 -- their contracts cite. Assumes nothing.
 use Prim.Native.Nat.{ℕ, suc, _^_, _≤_, _<_}
 use mathlib.Core.Path.{_≡_}
-use mathlib.Core.Bool.{true, false}
+use mathlib.Core.Bool.{true, false, cond}
 use mathlib.Core.Logic.{_⊎_}
+use lib.ListN.{length}
 use Rattle.gregorian.specs.declared.Date.{Date}
 use Rattle.gregorian.specs.Calendar.{noDate, isDateOf, number}
-use Rattle.markets.specs.Markets.{isMarket}
-use Rattle.ranges.specs.Ranges.{previousTradingDay}
+use Rattle.markets.specs.Markets.{holidaysByCode, isMarket}
+use Rattle.ranges.specs.Ranges.{daysFrom, previousTradingDay, sumOf}
 use Rattle.error.specs.declared.OptionalDateResult.{OptionalDateResult}
 use Rattle.checks.specs.Checks.{tryRange}
 use Rattle.calendar.specs.CalendarCalls.{isTradingDayResult}
@@ -31,31 +32,33 @@ pub record InRange (start end t : Date) : Type 0 where
 abbrev pub isTradingDayCall : ℕ → Date → BoolAnswer
 isTradingDayCall market t = boolAnswer (isTradingDayResult market (t .year) (t .month) (t .day))
 
--- Every market of the set trades on the date, by its own call; one of them does not.
+-- every market of the set trades on the date, by its own call
 abbrev pub AllTrade : ℕ → Date → Type 0
 AllTrade markets t = (market : ℕ) → hasMarket markets market ≡ true → isTradingDayCall market t ≡ isYes
 
+-- one of them does not
 abbrev pub OneIsClosed : ℕ → Date → Type 0
 OneIsClosed markets t = (market : ℕ) × (hasMarket markets market ≡ true) × (isTradingDayCall market t ≡ isNo)
 
 -- ---- the claim
 
--- of an answer without an error
-abbrev pub Found : ℕ → Date → Date → OptionalDateAnswer → Type 0
-Found markets start end r = (t : Date) × (r ≡ someDate t) × InRange start end t × AllTrade markets t
+-- the answer is a date of the range on which all trade
+abbrev pub IsCommonDate : ℕ → Date → Date → OptionalDateAnswer → Type 0
+IsCommonDate markets start end r = (t : Date) × (r ≡ someDate t) × InRange start end t × AllTrade markets t
 
-abbrev pub NoneFound : ℕ → Date → Date → OptionalDateAnswer → Type 0
-NoneFound markets start end r = (r ≡ noneFound) × ((t : Date) → InRange start end t → OneIsClosed markets t)
+-- the answer is none, and there is no such date
+abbrev pub IsNone : ℕ → Date → Date → OptionalDateAnswer → Type 0
+IsNone markets start end r = (r ≡ noneFound) × ((t : Date) → InRange start end t → OneIsClosed markets t)
 
 -- of an answer that the contract allows for the set and the range
 pub record CommonDayLaws (markets : ℕ) (start end : Date) (r : OptionalDateAnswer) : Type 0 where
-  -- Without an error it is a date of the range on which all trade, or none, and then there is no such date.
-  pub answered : r .error ≡ 0 → Found markets start end r ⊎ NoneFound markets start end r
+  -- Without an error it is one of these.
+  pub answered : r .error ≡ 0 → IsCommonDate markets start end r ⊎ IsNone markets start end r
   -- It is none where the start is after the end.
   pub reversed : r .error ≡ 0 → number end < number start → r ≡ noneFound
   -- Which of several dates it is, is free: each of them is allowed.
   pub any-date : r .error ≡ 0 → (t : Date) → InRange start end t → AllTrade markets t → CommonTradingDay markets start end (someDate t)
-  -- Error 12 for what is no set, whatever the dates are; or else the error of the count call on the dates, with its date, or none.
+  -- Error 12 for what is no set, whatever the dates are; or else the error of the count call on the dates, with its date, or no error.
   pub no-set : isMarketSet markets ≡ false → r ≡ notSearched 12 noDate
   pub date-error : (market : ℕ) → isMarketSet markets ≡ true → isMarket market ≡ true → (countCall market start end .error ≡ 0 → ⊥)
       → r ≡ notSearched (countCall market start end .error) (countCall market start end .date)
@@ -64,7 +67,7 @@ pub record CommonDayLaws (markets : ℕ) (start end : Date) (r : OptionalDateAns
   pub one-market-none : (market : ℕ) → isMarket market ≡ true → markets ≡ 2 ^ market → countCall market start end ≡ counted 0 → r ≡ noneFound
   pub one-market-found : (market k : ℕ) → isMarket market ≡ true → markets ≡ 2 ^ market → countCall market start end ≡ counted (suc k) → r .found ≡ 1
 
--- what a program returns that takes the last such day of the range, the last before the day after it
+-- what a program returns that takes the last such day of the range: previous, from the day after its end
 abbrev pub lastCommonDay : ℕ → Date → Date → OptionalDateAnswer
 lastCommonDay markets start end =
     optionalDateAnswer
@@ -72,5 +75,12 @@ lastCommonDay markets start end =
 
 -- for every set, range and answer
 pub record AllCommonDayLaws : Type 0 where
+  -- A set is the sum of the bits of its markets, and has no bit of any other code.
+  pub sum-of-bits : (markets : ℕ) → isMarketSet markets ≡ true
+      → markets ≡ sumOf (λ market. cond (hasMarket markets market) (2 ^ market) 0) (daysFrom 0 (length holidaysByCode))
+  pub only-markets : (markets market : ℕ) → isMarketSet markets ≡ true → hasMarket markets market ≡ true → isMarket market ≡ true
   pub laws : (markets : ℕ) (start end : Date) (r : OptionalDateAnswer) → CommonTradingDay markets start end r → CommonDayLaws markets start end r
+  -- Nothing but the date is left free: two answers that are allowed are the same, or both are dates.
+  pub only-the-date : (markets : ℕ) (start end : Date) (r s : OptionalDateAnswer) → CommonTradingDay markets start end r
+      → CommonTradingDay markets start end s → (r ≡ s) ⊎ ((t u : Date) × (r ≡ someDate t) × (s ≡ someDate u))
   pub last-is-right : (markets : ℕ) (start end : Date) → CommonTradingDay markets start end (lastCommonDay markets start end)
