@@ -15,7 +15,8 @@ use crate::{ffi, Market, NaiveDate, Result};
 use std::fmt;
 use std::ops::BitOr;
 
-/// A set of markets, a byte with a bit for each `[market-set]`. It can be empty, which the call refuses; it has no other bits.
+/// A set of markets, a byte with a bit for each `[market-set]`. It can be empty, which the call refuses; it has no bit
+/// that is no market's.
 ///
 /// ```
 /// use trading_calendar::{Market, MarketSet};
