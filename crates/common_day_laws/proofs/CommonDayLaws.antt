@@ -267,6 +267,7 @@ pub common-day-laws : AllCommonDayLaws
 common-day-laws = record {
   sum-of-bits = sum-of-bits;
   only-markets = member-is-market;
+  one-market = one-market;
   laws = λ markets start end r w. record {
     answered = λ z. is-answered markets start end r (searched markets start end r w z);
     reversed = λ z. reversed markets start end r (searched markets start end r w z);

@@ -8,7 +8,7 @@ use mathlib.Core.Logic.{_⊎_}
 use lib.ListN.{length}
 use Rattle.gregorian.specs.declared.Date.{Date}
 use Rattle.gregorian.specs.Calendar.{noDate, isDateOf, number}
-use Rattle.markets.specs.Markets.{holidaysByCode, isMarket}
+use Rattle.markets.specs.Markets.{holidaysByCode, isMarket, isTradingDay}
 use Rattle.ranges.specs.Ranges.{daysFrom, previousTradingDay, sumOf}
 use Rattle.error.specs.declared.OptionalDateResult.{OptionalDateResult}
 use Rattle.checks.specs.Checks.{tryRange}
@@ -29,6 +29,7 @@ pub record InRange (start end t : Date) : Type 0 where
   pub from : number start ≤ number t
   pub to : number t ≤ number end
 
+-- what the call of one market returns on a date
 abbrev pub isTradingDayCall : ℕ → Date → BoolAnswer
 isTradingDayCall market t = boolAnswer (isTradingDayResult market (t .year) (t .month) (t .day))
 
@@ -79,8 +80,12 @@ pub record AllCommonDayLaws : Type 0 where
   pub sum-of-bits : (markets : ℕ) → isMarketSet markets ≡ true
       → markets ≡ sumOf (λ market. cond (hasMarket markets market) (2 ^ market) 0) (daysFrom 0 (length holidaysByCode))
   pub only-markets : (markets market : ℕ) → isMarketSet markets ≡ true → hasMarket markets market ≡ true → isMarket market ≡ true
+  -- The days of the set of one market are its trading days.
+  pub one-market : (market n : ℕ) → isMarket market ≡ true → isCommonTradingDay (2 ^ market) n ≡ isTradingDay market n
+  -- every answer that the contract allows
   pub laws : (markets : ℕ) (start end : Date) (r : OptionalDateAnswer) → CommonTradingDay markets start end r → CommonDayLaws markets start end r
   -- Nothing but the date is left free: two answers that are allowed are the same, or both are dates.
   pub only-the-date : (markets : ℕ) (start end : Date) (r s : OptionalDateAnswer) → CommonTradingDay markets start end r
       → CommonTradingDay markets start end s → (r ≡ s) ⊎ ((t u : Date) × (r ≡ someDate t) × (s ≡ someDate u))
+  -- Another program would be right too.
   pub last-is-right : (markets : ℕ) (start end : Date) → CommonTradingDay markets start end (lastCommonDay markets start end)
