@@ -8,9 +8,10 @@ pub mod slices;
 pub mod trading_hours;
 
 ghost use mathlib.Core.Path.{_≡_};
+ghost use mathlib.Core.Bool.{true};
 ghost use Prim.Native.Nat.{_+_, _-_, _≤_};
+ghost use Rattle.gregorian.specs.Calendar.{lastDay, isDate, dateOf};
 ghost use Rattle.utils.specs.Weekday.{mapDay, nthWeekdayOfMonth};
-ghost use Rattle.utils.specs.Inner.{InYears};
 ghost use Rattle.utils.specs.Easter.{calculateEaster};
 ghost use Rattle.answers.specs.Answers.{optionalDate, flagOf, boolAnswer};
 use error::BoolResult;
@@ -18,7 +19,6 @@ use gregorian::Date;
 use gregorian::NO_DATE;
 use utils::OptionalDay;
 use utils::easter::easter_days;
-use utils::first_weekday;
 use utils::nth_weekday_of_month;
 
 // tc_optional_date of the header, [host-answers]: found is 1 and date is the answer, or every field is 0.
@@ -33,33 +33,32 @@ const NO_OPTIONAL_DATE: OptionalDate = OptionalDate {
     date: NO_DATE,
 };
 
-pub fn optional_date(day: OptionalDay) -> OptionalDate
-    requires { ⌜ InYears day ⌝ }
-    ensures { λ r. ⌜ r ≡ optionalDate day ⌝ }
+// The date of day n, found without a conversion where it is in the month given.
+fn date_near(year: u32, month: u32, n: u32) -> Date
+    requires { ⌜ (isDate year month 1 ≡ true) × (1 ≤ n) × (n ≤ lastDay) ⌝ }
+    ensures { λ r. ⌜ r ≡ dateOf n ⌝ }
 {
-    match day {
-        OptionalDay::Day(n) => OptionalDate {
-            found: 1,
-            date: gregorian::date_of(n),
-        },
-        OptionalDay::None => NO_OPTIONAL_DATE,
+    let first = gregorian::day_number(year, month, 1);
+    if first <= n {
+        let day = n - first + 1;
+        if gregorian::is_date(year, month, day) {
+            return Date { year, month, day };
+        }
     }
+    gregorian::date_of(n)
 }
 
-// The nth weekday of a month. The first four are in the month itself, so their date is the month's with another day.
-pub fn nth_weekday_answer(year: u32, month: u32, weekday: u32, nth: u8) -> OptionalDate
+// The nth weekday of a month, which mostly is in the month itself.
+pub fn nth_weekday_answer(year: u32, month: u32, weekday: u32, nth: i32) -> OptionalDate
     ensures { λ r. ⌜ r ≡ optionalDate (nthWeekdayOfMonth year month weekday nth) ⌝ }
 {
-    let is_early = (1 <= nth) & (nth <= 4) & (weekday <= 6);
-    if is_early & gregorian::is_date(year, month, 1) {
-        let first = first_weekday(year, month, weekday);
-        let day = first + 7 * (nth as u32 - 1);
-        return OptionalDate {
-            found: 1,
-            date: Date { year, month, day },
-        };
+    let OptionalDay::Day(n) = nth_weekday_of_month(year, month, weekday, nth) else {
+        return NO_OPTIONAL_DATE;
+    };
+    OptionalDate {
+        found: 1,
+        date: date_near(year, month, n),
     }
-    optional_date(nth_weekday_of_month(year, month, weekday, nth))
 }
 
 // Easter Sunday, or a day before or after it, by the day of March on which it is at the earliest, as Easter on the 22nd.

@@ -7,6 +7,7 @@ use mathlib.Core.List.{List, [], _∷_, _++_}
 use mathlib.Core.Logic.{_⊎_, inl, inr, ⊎-elim}
 use lib.Dec.{ltb, leb, eqb, lit≤}
 use lib.ListN.{getD}
+use lib.IntN.{pos}
 use native.Mathlib.Omega.{arith}
 use native.Mathlib.Nat.{eq-or-lt-of-le, le-of-suc-le-suc}
 use borrow.Author.Tests.{leb-true, ltb-true, eqb-true, ne-eqb}
@@ -55,9 +56,9 @@ equinox-near days low high m y t k e =
     (subst (λ (i : ℕ). dayNumber y m low ≤ i) q (day-order y m _ _ (d .0)), subst (λ (i : ℕ). i ≤ dayNumber y m high) q (day-order y m _ _ (d .1)))
 
 -- the nth weekday is in the first n weeks of the month
-nth-high : (y m w n t : ℕ) → nthWeekdayOfMonth y m w n ≡ Day t → 1 ≤ n → t ≤ dayNumber y m (7 * n)
+nth-high : (y m w n t : ℕ) → nthWeekdayOfMonth y m w (pos n) ≡ Day t → 1 ≤ n → t ≤ dayNumber y m (7 * n)
 unfolding dayNumber
-nth-high y m w n t e h = omega (arith, nth-weekday y m w n t e .weeks, first-near (dayNumber y m 1) w)
+nth-high y m w n t e h = omega (arith, nth-weekday y m w (pos n) t e .weeks, first-near (dayNumber y m 1) w)
 
 -- two days that every year has, one before the other
 abbrev inOrder : ℕ → ℕ → ℕ → ℕ → Bool
@@ -256,14 +257,14 @@ module _ (day : CalendarDay) (s : SameDay day) (h : day .number ≤ lastDay) whe
       let a = put a (dayNumber y 12 31) (dayNumber y 12 31) (in-order y 11 23 12 31 years refl) (omega arith) in
       a .same n
       ∙ by-month month false (japanRules y n)
-      (substituted-in 1 1 refl refl and substituted-in 1 2 refl refl and substituted-in 1 3 refl refl and nth day s h 1 monday 2
+      (substituted-in 1 1 refl refl and substituted-in 1 2 refl refl and substituted-in 1 3 refl refl and nth day s h 1 monday (pos 2)
       and substituted-in 2 11 refl refl and substituted-in 2 23 refl refl
       and equinox-in vernalDays 3 20 21 refl refl refl refl
       and substituted-in 4 29 refl refl
       and substituted-in 5 3 refl refl and substituted-in 5 5 refl refl and fixed day s h 5 4 refl refl and bridge-in
-      and nth day s h 7 monday 3
+      and nth day s h 7 monday (pos 3)
       and substituted-in 8 11 refl refl
-      and nth day s h 9 monday 3 and equinox-in autumnalDays 9 22 23 refl refl refl refl
-      and nth day s h 10 monday 2
+      and nth day s h 9 monday (pos 3) and equinox-in autumnalDays 9 22 23 refl refl refl refl
+      and nth day s h 10 monday (pos 2)
       and substituted-in 11 3 refl refl and substituted-in 11 23 refl refl
       and fixed day s h 12 31 refl refl and tt)

@@ -4,6 +4,7 @@ use Prim.Native.Nat.{ℕ, _+_}
 use mathlib.Core.Bool.{Bool, false, _&&_, _||_}
 use mathlib.Core.List.{List, [], _∷_}
 use lib.Dec.{eqb}
+use lib.IntN.{pos}
 use Rattle.gregorian.specs.Calendar.{monday, tuesday, thursday, sunday, dayNumber, weekdayOf}
 use Rattle.utils.specs.declared.OptionalDay.{OptionalDay}
 use Rattle.utils.specs.declared.OptionalDay.the-variants.{Day, None}
@@ -34,7 +35,7 @@ japanRules year n =
     on 1 (isWithSubstitute (dayNumber year 1 1) n)
     ∷ on 1 (isWithSubstitute (dayNumber year 1 2) n)
     ∷ on 1 (isWithSubstitute (dayNumber year 1 3) n)
-    ∷ on 1 (isDay (nthWeekdayOfMonth year 1 monday 2) n)
+    ∷ on 1 (isDay (nthWeekdayOfMonth year 1 monday (pos 2)) n)
     ∷ on 2 (isWithSubstitute (dayNumber year 2 11) n)
     ∷ on 2 (isWithSubstitute (dayNumber year 2 23) n)
     ∷ on 3 (isDayWithSubstitute (calculateVernalEquinox year) n)
@@ -43,11 +44,11 @@ japanRules year n =
     ∷ on 5 (isWithSubstitute (dayNumber year 5 5) n)
     ∷ on 5 (eqb n (dayNumber year 5 4))
     ∷ on 5 (isBridgeDay year n)
-    ∷ on 7 (isDay (nthWeekdayOfMonth year 7 monday 3) n)
+    ∷ on 7 (isDay (nthWeekdayOfMonth year 7 monday (pos 3)) n)
     ∷ on 8 (isWithSubstitute (dayNumber year 8 11) n)
-    ∷ on 9 (isDay (nthWeekdayOfMonth year 9 monday 3) n)
+    ∷ on 9 (isDay (nthWeekdayOfMonth year 9 monday (pos 3)) n)
     ∷ on 9 (isDayWithSubstitute (calculateAutumnalEquinox year) n)
-    ∷ on 10 (isDay (nthWeekdayOfMonth year 10 monday 2) n)
+    ∷ on 10 (isDay (nthWeekdayOfMonth year 10 monday (pos 2)) n)
     ∷ on 11 (isWithSubstitute (dayNumber year 11 3) n)
     ∷ on 11 (isWithSubstitute (dayNumber year 11 23) n)
     ∷ on 12 (eqb n (dayNumber year 12 31))

@@ -4,6 +4,7 @@ use mathlib.Core.Bool.{cond, _&&_}
 use mathlib.Core.List.{List, [], _∷_}
 use lib.Dec.{leb, eqb}
 use lib.ListN.{getD}
+use lib.IntN.{pos}
 use Rattle.gregorian.specs.Calendar.{monday, tuesday, thursday, friday, sunday, dayNumber, weekdayOf}
 use Rattle.utils.specs.declared.OptionalDay.{OptionalDay}
 use Rattle.utils.specs.declared.OptionalDay.the-variants.{Day, None}
@@ -69,7 +70,7 @@ getJapanHolidays year =
     let holidays = addWithSubstitute [] (dayNumber year 1 1) in  -- New Year holidays, 1 to 3 January
     let holidays = addWithSubstitute holidays (dayNumber year 1 2) in
     let holidays = addWithSubstitute holidays (dayNumber year 1 3) in
-    let holidays = insertDay holidays (nthWeekdayOfMonth year 1 monday 2) in  -- Coming of Age Day
+    let holidays = insertDay holidays (nthWeekdayOfMonth year 1 monday (pos 2)) in  -- Coming of Age Day
     let holidays = addWithSubstitute holidays (dayNumber year 2 11) in  -- National Foundation Day
     let holidays = addWithSubstitute holidays (dayNumber year 2 23) in  -- Emperor's Birthday
     let holidays = addDayWithSubstitute holidays (calculateVernalEquinox year) in
@@ -77,11 +78,11 @@ getJapanHolidays year =
     let holidays = addWithSubstitute holidays (dayNumber year 5 3) in  -- Golden Week
     let holidays = addWithSubstitute holidays (dayNumber year 5 5) in
     let holidays = applyGoldenWeekRules year holidays in
-    let holidays = insertDay holidays (nthWeekdayOfMonth year 7 monday 3) in  -- Marine Day
+    let holidays = insertDay holidays (nthWeekdayOfMonth year 7 monday (pos 3)) in  -- Marine Day
     let holidays = addWithSubstitute holidays (dayNumber year 8 11) in  -- Mountain Day
-    let holidays = insertDay holidays (nthWeekdayOfMonth year 9 monday 3) in  -- Respect for Aged Day
+    let holidays = insertDay holidays (nthWeekdayOfMonth year 9 monday (pos 3)) in  -- Respect for Aged Day
     let holidays = addDayWithSubstitute holidays (calculateAutumnalEquinox year) in
-    let holidays = insertDay holidays (nthWeekdayOfMonth year 10 monday 2) in  -- Health and Sports Day
+    let holidays = insertDay holidays (nthWeekdayOfMonth year 10 monday (pos 2)) in  -- Health and Sports Day
     let holidays = addWithSubstitute holidays (dayNumber year 11 3) in  -- Culture Day
     let holidays = addWithSubstitute holidays (dayNumber year 11 23) in  -- Labour Thanksgiving Day
     insert holidays (dayNumber year 12 31)  -- Market closes

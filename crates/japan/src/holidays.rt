@@ -4,6 +4,7 @@
 ghost use mathlib.Core.Path.{_≡_};
 ghost use mathlib.Core.Bool.{true};
 ghost use Prim.Native.Nat.{_+_, _≤_};
+ghost use lib.IntN.{pos};
 ghost use Rattle.gregorian.specs.Calendar.{monday, lastDay, dayNumber};
 ghost use Rattle.gregorian.specs.Inner.{SameDay};
 ghost use Rattle.utils.specs.Weekday.{nthWeekdayOfMonth};
@@ -116,7 +117,7 @@ fn is_bridge_day(day: CalendarDay) -> bool
 
 // The 2nd Monday of January.
 fn is_coming_of_age_day(day: CalendarDay) -> bool
-    ensures { λ r. ⌜ r ≡ isDay (nthWeekdayOfMonth (day .date .year) 1 monday 2) (day .number) ⌝ }
+    ensures { λ r. ⌜ r ≡ isDay (nthWeekdayOfMonth (day .date .year) 1 monday (pos 2)) (day .number) ⌝ }
 {
     let OptionalDay::Day(coming_of_age_day) = nth_weekday_for(day, 1, MONDAY, 2) else {
         return false;
@@ -126,7 +127,7 @@ fn is_coming_of_age_day(day: CalendarDay) -> bool
 
 // The 3rd Monday of July.
 fn is_marine_day(day: CalendarDay) -> bool
-    ensures { λ r. ⌜ r ≡ isDay (nthWeekdayOfMonth (day .date .year) 7 monday 3) (day .number) ⌝ }
+    ensures { λ r. ⌜ r ≡ isDay (nthWeekdayOfMonth (day .date .year) 7 monday (pos 3)) (day .number) ⌝ }
 {
     let OptionalDay::Day(marine_day) = nth_weekday_for(day, 7, MONDAY, 3) else {
         return false;
@@ -136,7 +137,7 @@ fn is_marine_day(day: CalendarDay) -> bool
 
 // The 3rd Monday of September.
 fn is_respect_for_aged_day(day: CalendarDay) -> bool
-    ensures { λ r. ⌜ r ≡ isDay (nthWeekdayOfMonth (day .date .year) 9 monday 3) (day .number) ⌝ }
+    ensures { λ r. ⌜ r ≡ isDay (nthWeekdayOfMonth (day .date .year) 9 monday (pos 3)) (day .number) ⌝ }
 {
     let OptionalDay::Day(respect_for_aged_day) = nth_weekday_for(day, 9, MONDAY, 3) else {
         return false;
@@ -146,7 +147,7 @@ fn is_respect_for_aged_day(day: CalendarDay) -> bool
 
 // The 2nd Monday of October.
 fn is_health_and_sports_day(day: CalendarDay) -> bool
-    ensures { λ r. ⌜ r ≡ isDay (nthWeekdayOfMonth (day .date .year) 10 monday 2) (day .number) ⌝ }
+    ensures { λ r. ⌜ r ≡ isDay (nthWeekdayOfMonth (day .date .year) 10 monday (pos 2)) (day .number) ⌝ }
 {
     let OptionalDay::Day(sports_day) = nth_weekday_for(day, 10, MONDAY, 2) else {
         return false;

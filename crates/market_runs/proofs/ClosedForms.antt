@@ -10,9 +10,9 @@ use borrow.Author.Tests.{leb-true}
 use Rattle.gregorian.specs.Calendar.{leap, leapDay, yearLength, monthLength, total, lastYear, isDate, dayNumber, weekdayOf}
 use Rattle.gregorian.proofs.Tests.{and-left, and-right}
 use Rattle.utils.specs.declared.OptionalDay.the-variants.{Day}
-use Rattle.utils.specs.Weekday.{firstFrom, targetDay, nthWeekdayOfMonth, firstOfNext, lastUpTo, lastWeekdayOfMonth}
+use Rattle.utils.specs.Weekday.{firstFrom, targetDay, nthFromStart, firstOfNext, lastUpTo, lastWeekdayOfMonth}
 use Rattle.utils.specs.Easter.{moonDays, easter, calculateEaster, calculateGoodFriday, calculateEasterMonday}
-use Rattle.utils.proofs.WeekdayLaws.{nth-early}
+use Rattle.utils.proofs.WeekdayLaws.{nth-early, nth-last}
 use Rattle.rule_days.specs.Days.{contains, insert, insertIf, insertDay, matchWeekend}
 use Rattle.rule_days.specs.Inner.{everyYearHas}
 use Rattle.rule_days.proofs.DayLaws.{every-year-date}
@@ -26,8 +26,8 @@ use Rattle.markets.specs.Markets.{holidaysByCode, holidays, isWeekend}
 abbrev isEarly : ℕ → ℕ → ℕ → Bool
 isEarly m w n = everyYearHas m 1 && leb w 6 && leb 1 n && leb n 4
 
--- `nthWeekdayOfMonth` compares the month of a date, which cannot be computed; the first four need no comparison.
-pub early : (y m w n : ℕ) → 1 ≤ y → y ≤ lastYear → isEarly m w n ≡ true → nthWeekdayOfMonth y m w n ≡ Day (targetDay y m w n)
+-- The nth weekday compares the month of a date, which cannot be computed; the first four and the last one need no comparison.
+pub early : (y m w n : ℕ) → 1 ≤ y → y ≤ lastYear → isEarly m w n ≡ true → nthFromStart y m w n ≡ Day (targetDay y m w n)
 early y m w n l h e₄ =
     let t₂ = everyYearHas m 1 && leb w 6 in
     let t₃ = t₂ && leb 1 n in
@@ -40,14 +40,14 @@ pub by-code : (market y : ℕ) → holidays market y ≡ getD holidaysByCode mar
 unfolding holidays
 by-code market y = refl
 
--- The list that the definition comes to with `early` everywhere.
+-- The list that the definition comes to with `early` and `nth-last` everywhere.
 unfoldable pub closedForm : (market y : ℕ) → 1 ≤ y → y ≤ lastYear → (ds : List ℕ) × (holidays market y ≡ ds)
 unfolding getUsHolidays getUkHolidays getCanadaHolidays getJapanHolidays
-closedForm zero y l h = (_, simp (early y) at (by-code 0 y))
-closedForm (suc zero) y l h = (_, simp (early y) at (by-code 1 y))
-closedForm (suc (suc zero)) y l h = (_, simp (early y) at (by-code 2 y))
-closedForm (suc (suc (suc zero))) y l h = (_, simp (early y) at (by-code 3 y))
-closedForm (suc (suc (suc (suc zero)))) y l h = (_, simp (early y) at (by-code 4 y))
+closedForm zero y l h = (_, simp (early y, nth-last y) at (by-code 0 y))
+closedForm (suc zero) y l h = (_, simp (early y, nth-last y) at (by-code 1 y))
+closedForm (suc (suc zero)) y l h = (_, simp (early y, nth-last y) at (by-code 2 y))
+closedForm (suc (suc (suc zero))) y l h = (_, simp (early y, nth-last y) at (by-code 3 y))
+closedForm (suc (suc (suc (suc zero)))) y l h = (_, simp (early y, nth-last y) at (by-code 4 y))
 closedForm (suc (suc (suc (suc (suc market))))) y l h = (_, refl)
 
 -- The list by itself. To unfold it is to unfold all that it takes to compute it, and whether a day of the year trades.

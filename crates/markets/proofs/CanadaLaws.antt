@@ -5,6 +5,7 @@ use mathlib.Core.Path.{_≡_, refl, ap, sym, _∙_}
 use mathlib.Core.Bool.{Bool, true, false, cond, _&&_}
 use mathlib.Core.List.{[], _∷_}
 use lib.Dec.{leb, eqb, lit≤}
+use lib.IntN.{pos}
 use native.Mathlib.Omega.{arith}
 use borrow.Author.Tests.{eqb-true, eqb-false, ne-eqb}
 use Rattle.gregorian.specs.Calendar.{monday, friday, saturday, sunday, lastDay, dayNumber, weekdayOf}
@@ -52,8 +53,8 @@ module _ (day : CalendarDay) (s : SameDay day) (h : day .number ≤ lastDay) whe
   from-2008 : Fits month (2 ∷ []) (isDay (familyDay year) n)
   from-2008 = by (leb 2008 year)
     where
-      by : (b : Bool) → Fits month (2 ∷ []) (isDay (cond b (nthWeekdayOfMonth year 2 monday 3) None) n)
-      by true e = nth day s h 2 monday 3 e
+      by : (b : Bool) → Fits month (2 ∷ []) (isDay (cond b (nthWeekdayOfMonth year 2 monday (pos 3)) None) n)
+      by true e = nth day s h 2 monday (pos 3) e
       by false e = cc
 
   -- from 18 to 24 May
@@ -72,5 +73,5 @@ module _ (day : CalendarDay) (s : SameDay day) (h : day .number ≤ lastDay) whe
   canada-by-month =
       simp (contains-day, contains-insert, contains-none)
       (by-month month false (canadaRules year n)
-      (observed day s h 1 1 refl refl and from-2008 and good-friday day s h and victoria and observed day s h 7 1 refl refl and nth day s h 9 monday 1 and nth day s h 10 monday 2
+      (observed day s h 1 1 refl refl and from-2008 and good-friday day s h and victoria and observed day s h 7 1 refl refl and nth day s h 9 monday (pos 1) and nth day s h 10 monday (pos 2)
       and observed day s h 12 25 refl refl and boxing and tt))

@@ -5,6 +5,7 @@ use mathlib.Core.Path.{_≡_, refl, ap, sym, _∙_}
 use mathlib.Core.Bool.{Bool, true, false, cond, _||_}
 use mathlib.Core.List.{List}
 use lib.Dec.{eqb, lit≤}
+use lib.IntN.{pos}
 use native.Mathlib.Omega.{arith}
 use borrow.Author.Tests.{eqb-true, eqb-false, ne-eqb}
 use Rattle.gregorian.specs.Calendar.{monday, friday, saturday, sunday, lastDay, dayNumber, weekdayOf}
@@ -12,12 +13,13 @@ use Rattle.gregorian.proofs.Laws.{days-on}
 use Rattle.gregorian.proofs.Weekdays.{weekday-after}
 use Rattle.gregorian.specs.declared.days.CalendarDay.{CalendarDay}
 use Rattle.gregorian.specs.Inner.{SameDay}
+use Rattle.utils.specs.Weekday.{minus}
 use Rattle.rule_days.specs.Days.{contains, insert, adjustForWeekend}
 use Rattle.rule_days.specs.Inner.{anyOf, isBetween}
 use Rattle.markets.specs.Uk.{addBoxingDay, getUkHolidays}
 use Rattle.markets.specs.Inner.{isOneOfTwo, isChristmasOrBoxingDay, ukRules}
 use Rattle.rule_days.proofs.DayLaws.{contains-none, contains-insert, contains-day, not-between, on-key, on-weekday}
-use Rattle.rule_days.proofs.RuleMonths.{_and_, by-month, near, observed, nth, last, good-friday, easter-monday}
+use Rattle.rule_days.proofs.RuleMonths.{_and_, by-month, near, observed, nth, good-friday, easter-monday}
 
 -- The arms of the code, one of a weekday k, and the last.
 pub christmas-on : (k y n d w : ℕ) → w ≡ k → w ≡ weekdayOf d → d ≡ dayNumber y 12 25 → isOneOfTwo n d k ≡ isChristmasOrBoxingDay y n
@@ -99,5 +101,5 @@ module _ (day : CalendarDay) (s : SameDay day) (h : day .number ≤ lastDay) whe
       two-days-of _ year n _ _ _ refl refl refl
       ∙ simp (contains-day, contains-insert, contains-none)
       (by-month month false (ukRules year n)
-      (observed day s h 1 1 refl refl and good-friday day s h and easter-monday day s h and nth day s h 5 monday 1 and last day s h 5 monday refl and last day s h 8 monday refl
+      (observed day s h 1 1 refl refl and good-friday day s h and easter-monday day s h and nth day s h 5 monday (pos 1) and nth day s h 5 monday (minus 1) and nth day s h 8 monday (minus 1)
       and near day s h 12 25 3 (isChristmasOrBoxingDay year n) refl refl (not-christmas-or-boxing-day year n) and tt))

@@ -5,16 +5,18 @@ use mathlib.Core.Path.{_≡_, refl}
 use mathlib.Core.Bool.{false, _&&_}
 use mathlib.Core.List.{[], _∷_}
 use lib.Dec.{leb, eqb}
+use lib.IntN.{pos}
 use native.Mathlib.Omega.{arith}
 use Rattle.gregorian.specs.Calendar.{monday, thursday, lastDay, dayNumber}
 use Rattle.gregorian.specs.declared.days.CalendarDay.{CalendarDay}
 use Rattle.gregorian.specs.Inner.{SameDay}
 use Rattle.gregorian.proofs.Laws.{days-on}
 use Rattle.gregorian.proofs.Tests.{and-right}
+use Rattle.utils.specs.Weekday.{minus}
 use Rattle.rule_days.specs.Days.{contains}
 use Rattle.rule_days.specs.Inner.{anyOf, isBetween}
 use Rattle.rule_days.proofs.DayLaws.{contains-none, contains-insert, contains-if, contains-day, not-moved}
-use Rattle.rule_days.proofs.RuleMonths.{Fits, _and_, by-month, near, observed, nth, last, good-friday}
+use Rattle.rule_days.proofs.RuleMonths.{Fits, _and_, by-month, near, observed, nth, good-friday}
 use Rattle.markets.specs.Us.{independenceDay, juneteenth, getUsHolidays}
 use Rattle.markets.specs.Inner.{usRules}
 
@@ -46,5 +48,5 @@ module _ (day : CalendarDay) (s : SameDay day) (h : day .number ≤ lastDay) whe
   us-by-month =
       simp (contains-day, contains-if, contains-insert, contains-none)
       (by-month month false (usRules year n)
-      (observed day s h 1 1 refl refl and independence and observed day s h 12 25 refl refl and from-2021 and nth day s h 1 monday 3 and nth day s h 2 monday 3
-      and last day s h 5 monday refl and nth day s h 9 monday 1 and nth day s h 11 thursday 4 and good-friday day s h and tt))
+      (observed day s h 1 1 refl refl and independence and observed day s h 12 25 refl refl and from-2021 and nth day s h 1 monday (pos 3) and nth day s h 2 monday (pos 3)
+      and nth day s h 5 monday (minus 1) and nth day s h 9 monday (pos 1) and nth day s h 11 thursday (pos 4) and good-friday day s h and tt))

@@ -3,6 +3,7 @@ use Prim.Native.Nat.{ℕ, _+_}
 use mathlib.Core.Bool.{cond, _&&_}
 use mathlib.Core.List.{List, []}
 use lib.Dec.{leb, eqb}
+use lib.IntN.{pos}
 use Rattle.gregorian.specs.Calendar.{monday, friday, saturday, sunday, dayNumber, weekdayOf}
 use Rattle.utils.specs.declared.OptionalDay.{OptionalDay}
 use Rattle.utils.specs.declared.OptionalDay.the-variants.{None}
@@ -12,7 +13,7 @@ use Rattle.rule_days.specs.Days.{insert, insertDay, adjustForWeekend}
 
 -- `if year >= 2008 { .. }`
 abbrev pub familyDay : ℕ → OptionalDay
-familyDay year = cond (leb 2008 year) (nthWeekdayOfMonth year 2 monday 3) None
+familyDay year = cond (leb 2008 year) (nthWeekdayOfMonth year 2 monday (pos 3)) None
 
 -- victoria_day: from 24 May, which every year has, back to a Monday
 abbrev pub victoriaDay : ℕ → ℕ
@@ -39,7 +40,7 @@ getCanadaHolidays year =
     let holidays = insertDay holidays (calculateGoodFriday year) in
     let holidays = insert holidays (victoriaDay year) in
     let holidays = insert holidays (adjustForWeekend (dayNumber year 7 1)) in  -- Canada Day
-    let holidays = insertDay holidays (nthWeekdayOfMonth year 9 monday 1) in  -- Labour Day
-    let holidays = insertDay holidays (nthWeekdayOfMonth year 10 monday 2) in  -- Thanksgiving
+    let holidays = insertDay holidays (nthWeekdayOfMonth year 9 monday (pos 1)) in  -- Labour Day
+    let holidays = insertDay holidays (nthWeekdayOfMonth year 10 monday (pos 2)) in  -- Thanksgiving
     let holidays = insert holidays (adjustForWeekend (dayNumber year 12 25)) in  -- Christmas Day
     insert holidays (boxingDay year)

@@ -5,8 +5,9 @@ use mathlib.Core.Bool.{Bool, cond, _&&_, _||_}
 use mathlib.Core.List.{List, [], _∷_}
 use lib.Dec.{leb, eqb}
 use lib.ListN.{getD}
+use lib.IntN.{pos}
 use Rattle.gregorian.specs.Calendar.{monday, friday, saturday, sunday, dayNumber, weekdayOf}
-use Rattle.utils.specs.Weekday.{nthWeekdayOfMonth, lastWeekdayOfMonth}
+use Rattle.utils.specs.Weekday.{nthWeekdayOfMonth, minus}
 use Rattle.utils.specs.Easter.{calculateGoodFriday, calculateEasterMonday}
 use Rattle.rule_days.specs.Days.{isDay, adjustForWeekend}
 use Rattle.rule_days.specs.Inner.{Rule, on, onEither}
@@ -47,9 +48,9 @@ ukRules year n =
     on 1 (eqb n (adjustForWeekend (dayNumber year 1 1)))
     ∷ onEither 3 4 (isDay (calculateGoodFriday year) n)
     ∷ onEither 3 4 (isDay (calculateEasterMonday year) n)
-    ∷ on 5 (isDay (nthWeekdayOfMonth year 5 monday 1) n)
-    ∷ on 5 (isDay (lastWeekdayOfMonth year 5 monday) n)
-    ∷ on 8 (isDay (lastWeekdayOfMonth year 8 monday) n)
+    ∷ on 5 (isDay (nthWeekdayOfMonth year 5 monday (pos 1)) n)
+    ∷ on 5 (isDay (nthWeekdayOfMonth year 5 monday (minus 1)) n)
+    ∷ on 8 (isDay (nthWeekdayOfMonth year 8 monday (minus 1)) n)
     ∷ on 12 (isChristmasOrBoxingDay year n)
     ∷ []
 
@@ -61,8 +62,8 @@ canadaRules year n =
     ∷ onEither 3 4 (isDay (calculateGoodFriday year) n)
     ∷ on 5 (eqb n (victoriaDay year))
     ∷ on 7 (eqb n (adjustForWeekend (dayNumber year 7 1)))
-    ∷ on 9 (isDay (nthWeekdayOfMonth year 9 monday 1) n)
-    ∷ on 10 (isDay (nthWeekdayOfMonth year 10 monday 2) n)
+    ∷ on 9 (isDay (nthWeekdayOfMonth year 9 monday (pos 1)) n)
+    ∷ on 10 (isDay (nthWeekdayOfMonth year 10 monday (pos 2)) n)
     ∷ on 12 (eqb n (adjustForWeekend (dayNumber year 12 25)))
     ∷ on 12 (eqb n (boxingDay year))
     ∷ []

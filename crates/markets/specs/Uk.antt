@@ -3,8 +3,9 @@ use Prim.Native.Nat.{ℕ, _+_}
 use mathlib.Core.Bool.{cond}
 use mathlib.Core.List.{List, []}
 use lib.Dec.{eqb}
+use lib.IntN.{pos}
 use Rattle.gregorian.specs.Calendar.{monday, friday, saturday, sunday, dayNumber, weekdayOf}
-use Rattle.utils.specs.Weekday.{nthWeekdayOfMonth, lastWeekdayOfMonth}
+use Rattle.utils.specs.Weekday.{nthWeekdayOfMonth, minus}
 use Rattle.utils.specs.Easter.{calculateGoodFriday, calculateEasterMonday}
 use Rattle.rule_days.specs.Days.{insert, insertDay, adjustForWeekend}
 
@@ -26,8 +27,8 @@ getUkHolidays year =
     let holidays = insert [] (adjustForWeekend (dayNumber year 1 1)) in  -- New Year's Day
     let holidays = insertDay holidays (calculateGoodFriday year) in
     let holidays = insertDay holidays (calculateEasterMonday year) in
-    let holidays = insertDay holidays (nthWeekdayOfMonth year 5 monday 1) in  -- Early May Bank Holiday
-    let holidays = insertDay holidays (lastWeekdayOfMonth year 5 monday) in  -- Spring Bank Holiday
-    let holidays = insertDay holidays (lastWeekdayOfMonth year 8 monday) in  -- Summer Bank Holiday
+    let holidays = insertDay holidays (nthWeekdayOfMonth year 5 monday (pos 1)) in  -- Early May Bank Holiday
+    let holidays = insertDay holidays (nthWeekdayOfMonth year 5 monday (minus 1)) in  -- Spring Bank Holiday
+    let holidays = insertDay holidays (nthWeekdayOfMonth year 8 monday (minus 1)) in  -- Summer Bank Holiday
     let holidays = insert holidays (adjustForWeekend (dayNumber year 12 25)) in  -- Christmas Day
     addBoxingDay holidays year

@@ -2,9 +2,10 @@
 use Prim.Native.Nat.{ℕ, _+_, _-_}
 use mathlib.Core.List.{List, []}
 use lib.Dec.{leb}
+use lib.IntN.{pos}
 use Rattle.gregorian.specs.Calendar.{monday, thursday, dayNumber}
 use Rattle.utils.specs.declared.OptionalDay.{OptionalDay}
-use Rattle.utils.specs.Weekday.{nthWeekdayOfMonth, lastWeekdayOfMonth}
+use Rattle.utils.specs.Weekday.{nthWeekdayOfMonth, minus}
 use Rattle.utils.specs.Easter.{calculateGoodFriday}
 use Rattle.rule_days.specs.Days.{insert, insertIf, insertDay, matchWeekend, adjustForWeekend}
 
@@ -13,23 +14,23 @@ abbrev pub newYearsDay : ℕ → ℕ
 newYearsDay year = adjustForWeekend (dayNumber year 1 1)
 
 abbrev pub mlkDay : ℕ → OptionalDay
-mlkDay year = nthWeekdayOfMonth year 1 monday 3
+mlkDay year = nthWeekdayOfMonth year 1 monday (pos 3)
 
 abbrev pub presidentsDay : ℕ → OptionalDay
-presidentsDay year = nthWeekdayOfMonth year 2 monday 3
+presidentsDay year = nthWeekdayOfMonth year 2 monday (pos 3)
 
 abbrev pub memorialDay : ℕ → OptionalDay
-memorialDay year = lastWeekdayOfMonth year 5 monday
+memorialDay year = nthWeekdayOfMonth year 5 monday (minus 1)
 
 -- Saturday -1, Sunday +1
 abbrev pub independenceDay : ℕ → ℕ
 independenceDay year = let july4 = dayNumber year 7 4 in matchWeekend july4 (july4 - 1) (july4 + 1)
 
 abbrev pub laborDay : ℕ → OptionalDay
-laborDay year = nthWeekdayOfMonth year 9 monday 1
+laborDay year = nthWeekdayOfMonth year 9 monday (pos 1)
 
 abbrev pub thanksgivingDay : ℕ → OptionalDay
-thanksgivingDay year = nthWeekdayOfMonth year 11 thursday 4
+thanksgivingDay year = nthWeekdayOfMonth year 11 thursday (pos 4)
 
 abbrev pub juneteenth : ℕ → ℕ
 juneteenth year = adjustForWeekend (dayNumber year 6 19)

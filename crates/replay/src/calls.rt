@@ -193,7 +193,7 @@ fn nth_weekday_of_month(year: u32, month: u32, weekday: u32, nth: u32) -> Number
     if nth > 255 {
         return Numbers::new();
     }
-    optional_date(tc_nth_weekday_of_month(year, month, weekday, nth as u8))
+    optional_date(tc_nth_weekday_of_month(year, month, weekday, nth as i32))
 }
 
 // The fields of a C struct, in order; those about hours, months, ranges and sheets are in modules of their own.

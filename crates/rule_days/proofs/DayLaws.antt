@@ -6,6 +6,7 @@ use mathlib.Core.Bool.{Bool, true, false, cond, _&&_, _||_}
 use mathlib.Core.List.{List, [], _∷_, _++_}
 use lib.Dec.{leb, eqb}
 use lib.ListN.{getD}
+use lib.IntN.{ℤ}
 use native.Mathlib.Omega.{arith}
 use borrow.Author.Tests.{leb-true, le-leb, eqb-true, ne-eqb}
 use Rattle.gregorian.specs.Calendar.{saturday, sunday, weekdayOf, monthLengths, monthLength, dayNumber, lastYear, isDate}
@@ -14,8 +15,8 @@ use Rattle.gregorian.proofs.Total.{upto}
 use Rattle.gregorian.proofs.Laws.{date-by}
 use Rattle.utils.specs.declared.OptionalDay.{OptionalDay}
 use Rattle.utils.specs.declared.OptionalDay.the-variants.{Day, None}
-use Rattle.utils.specs.Weekday.{nthWeekdayOfMonth, lastWeekdayOfMonth}
-use Rattle.utils.proofs.WeekdayLaws.{nth-weekday, last-weekday}
+use Rattle.utils.specs.Weekday.{nthWeekdayOfMonth}
+use Rattle.utils.proofs.WeekdayLaws.{nth-weekday, weekday-is}
 use Rattle.rule_days.specs.Days.{contains, insert, insertIf, insertDay, isDay, matchWeekend, adjustForWeekend}
 use Rattle.rule_days.specs.Inner.{isBetween, everyYearHas}
 
@@ -74,11 +75,8 @@ other-weekday : (r : OptionalDay) (w n : ℕ) → ((d : ℕ) → r ≡ Day d →
 other-weekday (Day d) w n h k = sym (ne-eqb n d (λ q. k (ap weekdayOf q ∙ h d refl)))
 other-weekday None w n h k = refl
 
-pub not-nth : (y m w k n : ℕ) → (weekdayOf n ≡ w → ⊥) → false ≡ isDay (nthWeekdayOfMonth y m w k) n
-not-nth y m w k n = other-weekday _ w n (λ d e. nth-weekday y m w k d e .weekday)
-
-pub not-last : (y m w n : ℕ) → (weekdayOf n ≡ w → ⊥) → false ≡ isDay (lastWeekdayOfMonth y m w) n
-not-last y m w n = other-weekday _ w n (λ d e. last-weekday y m w d e .weekday)
+pub not-nth : (y m w : ℕ) (k : ℤ) (n : ℕ) → (weekdayOf n ≡ w → ⊥) → false ≡ isDay (nthWeekdayOfMonth y m w k) n
+not-nth y m w k n = other-weekday _ w n (λ d e. weekday-is y m w k d (nth-weekday y m w k d e))
 
 -- Where a `match` on the weekend leads to.
 match-between : (first last n s t : ℕ) → (first ≤ n) × (n ≤ last) → (first ≤ s) × (s ≤ last) → (first ≤ t) × (t ≤ last)

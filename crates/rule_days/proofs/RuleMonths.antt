@@ -5,6 +5,7 @@ use mathlib.Core.Path.{_≡_, refl, ap, sym, _∙_}
 use mathlib.Core.Bool.{Bool, true, false, cond, not, _&&_, _||_}
 use mathlib.Core.List.{List, [], _∷_}
 use lib.Dec.{leb, eqb}
+use lib.IntN.{ℤ}
 use native.Mathlib.Omega.{arith}
 use native.Mathlib.Decide.{decLe, decLt}
 use borrow.Author.Tests.{leb-true, eqb-true, eq-eqb, ne-eqb, le-leb, lt-leb, not-true}
@@ -17,8 +18,8 @@ use Rattle.gregorian.proofs.Laws.{days-on, is-date, date-by, by-number}
 use Rattle.gregorian.proofs.DaySteps.{is-date-of, number-is}
 use Rattle.utils.specs.declared.OptionalDay.{OptionalDay}
 use Rattle.utils.specs.declared.OptionalDay.the-variants.{Day, None}
-use Rattle.utils.specs.Weekday.{mapDay, nthWeekdayOfMonth, lastWeekdayOfMonth}
-use Rattle.utils.proofs.WeekdayLaws.{nth-weekday, last-weekday}
+use Rattle.utils.specs.Weekday.{mapDay, nthWeekdayOfMonth}
+use Rattle.utils.proofs.WeekdayLaws.{nth-weekday}
 use Rattle.utils.specs.Easter.{easter, calculateEaster, calculateGoodFriday, calculateEasterMonday}
 use Rattle.utils.proofs.EasterLaws.{easter-range, easter-found}
 use Rattle.rule_days.specs.Days.{isDay, adjustForWeekend}
@@ -75,12 +76,6 @@ in-range first last n t away e = by (isBetween first last n) refl
 the-day : (r : OptionalDay) (n : ℕ) → isDay r n ≡ true → r ≡ Day n
 the-day (Day d) n e = ap Day (sym (eqb-true n d e))
 the-day None n e = cc
-
-last-of-month : (y m : ℕ) → isDate y m 1 ≡ true → isDate y m (monthLength y m) ≡ true
-last-of-month y m h =
-    let g = is-date y m 1 h in
-    let x = g .exists in
-    date-by y m (monthLength y m) (x .y-low, g .y-high) (x .m-low, x .m-high) (x .d-high, omega arith)
 
 -- What is known of a day of a month, from day a to day b.
 pub record DayWithin (t : Date) (m a b : ℕ) : Type 0 where
@@ -158,15 +153,9 @@ module _ (day : CalendarDay) (s : SameDay day) (h : day .number ≤ lastDay) whe
   pub observed : (m d : ℕ) → everyYearHas m d ≡ true → everyYearHas m (d + 2) ≡ true → Fits month (m ∷ []) (eqb n (adjustForWeekend (dayNumber y m d)))
   observed m d p q = near m d 2 (eqb n (adjustForWeekend (dayNumber y m d))) p q (not-observed (dayNumber y m d) n)
 
-  -- the nth and the last weekday of month m
-  pub nth : (m w k : ℕ) → Fits month (m ∷ []) (isDay (nthWeekdayOfMonth y m w k) n)
+  -- the nth weekday of month m
+  pub nth : (m w : ℕ) (k : ℤ) → Fits month (m ∷ []) (isDay (nthWeekdayOfMonth y m w k) n)
   nth m w k e = one-month month m (ap (λ (t : Date). t .month) (s .same) ∙ nth-weekday y m w k n (the-day _ n e) .month)
-
-  pub last : (m w : ℕ) → everyYearHas m 1 ≡ true → Fits month (m ∷ []) (isDay (lastWeekdayOfMonth y m w) n)
-  last m w p e =
-      let t = last-weekday y m w n (the-day _ n e) in
-      let first = every-year-date y m 1 (year-range .0, year-range .1, p) in
-      one-month month m (within m 1 (monthLength y m) first (last-of-month y m first) (t .from-first) (t .to-last) .month)
 
   -- ---- Easter
 

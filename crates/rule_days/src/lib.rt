@@ -5,7 +5,7 @@ ghost use Prim.Native.Nat.{_+_, _≤_};
 ghost use lib.Dec.{eqb};
 ghost use Rattle.gregorian.specs.Calendar.{lastDay, dayNumber};
 ghost use Rattle.gregorian.specs.Inner.{SameDay};
-ghost use Rattle.utils.specs.Weekday.{nthWeekdayOfMonth, lastWeekdayOfMonth};
+ghost use Rattle.utils.specs.Weekday.{nthWeekdayOfMonth};
 ghost use Rattle.utils.specs.Easter.{calculateGoodFriday};
 ghost use Rattle.rule_days.specs.Days.{isDay, adjustForWeekend};
 ghost use Rattle.rule_days.specs.Inner.{isBetween, isAroundEaster};
@@ -15,7 +15,6 @@ use gregorian::SUNDAY;
 use gregorian::days::CalendarDay;
 use utils::OptionalDay;
 use utils::easter::calculate_good_friday;
-use utils::last_weekday_of_month;
 use utils::nth_weekday_of_month;
 
 // Day d of the month.
@@ -58,24 +57,15 @@ pub fn is_observed(day: CalendarDay, month: u32, d: u32) -> bool
     day.number == adjust_for_weekend(fixed_day(day, month, d))
 }
 
-// The nth weekday of a month of the day's year, for a day on that weekday. For another it is not computed, and none.
-pub fn nth_weekday_for(day: CalendarDay, month: u32, weekday: u32, nth: u8) -> OptionalDay
+// The nth weekday of a month of the day's year, from its end where nth is below 0, for a day on that weekday. For another it is not
+// computed, and none.
+pub fn nth_weekday_for(day: CalendarDay, month: u32, weekday: u32, nth: i32) -> OptionalDay
     ensures { λ r. ⌜ isDay r (day .number) ≡ isDay (nthWeekdayOfMonth (day .date .year) month weekday nth) (day .number) ⌝ }
 {
     if gregorian::weekday(day.number) != weekday {
         return OptionalDay::None;
     }
     nth_weekday_of_month(day.date.year, month, weekday, nth)
-}
-
-// The last weekday of such a month, likewise.
-pub fn last_weekday_for(day: CalendarDay, month: u32, weekday: u32) -> OptionalDay
-    ensures { λ r. ⌜ isDay r (day .number) ≡ isDay (lastWeekdayOfMonth (day .date .year) month weekday) (day .number) ⌝ }
-{
-    if gregorian::weekday(day.number) != weekday {
-        return OptionalDay::None;
-    }
-    last_weekday_of_month(day.date.year, month, weekday)
 }
 
 // From 20 March to 26 April. Easter is from 22 March to 25 April, so on other days it need not be computed.

@@ -7,7 +7,7 @@ pub mod slices;
 pub mod trading_hours;
 
 ghost use mathlib.Core.Path.{_≡_};
-ghost use Rattle.utils.specs.Weekday.{nthWeekdayOfMonth, lastWeekdayOfMonth};
+ghost use Rattle.utils.specs.Weekday.{nthWeekdayOfMonth, minus};
 ghost use Rattle.utils.specs.Easter.{calculateEaster, calculateGoodFriday, calculateEasterMonday};
 ghost use Rattle.calendar.specs.CalendarCalls.{isTradingDayResult, isHolidayResult};
 ghost use Rattle.answers.specs.Answers.{optionalDate, boolAnswer};
@@ -16,30 +16,30 @@ use answers::OptionalDate;
 use answers::bool_answer;
 use answers::easter_answer;
 use answers::nth_weekday_answer;
-use answers::optional_date;
 use utils::easter::EARLIEST_EASTER;
 use utils::easter::EARLIEST_EASTER_MONDAY;
 use utils::easter::EARLIEST_GOOD_FRIDAY;
 
-// [nth-weekday]: none for nth = 0, and for a weekday, a month, a year or an answer out of range.
+// [nth-weekday]: from the end of the month where nth is below 0. None for nth = 0 and beyond 255 either way, for every nth below 0 in
+// December 9999, and for a weekday, a month, a year or an answer out of range.
 #[no_mangle]
 pub extern "C" fn tc_nth_weekday_of_month(
     year: u32,
     month: u32,
     weekday: u32,
-    nth: u8,
+    nth: i32,
 ) -> OptionalDate
     ensures { λ r. ⌜ r ≡ optionalDate (nthWeekdayOfMonth year month weekday nth) ⌝ }
 {
     nth_weekday_answer(year, month, weekday, nth)
 }
 
-// [last-weekday]: none in December 9999, and for a weekday, a month or a year out of range.
+// [last-weekday]: nth = -1.
 #[no_mangle]
 pub extern "C" fn tc_last_weekday_of_month(year: u32, month: u32, weekday: u32) -> OptionalDate
-    ensures { λ r. ⌜ r ≡ optionalDate (lastWeekdayOfMonth year month weekday) ⌝ }
+    ensures { λ r. ⌜ r ≡ optionalDate (nthWeekdayOfMonth year month weekday (minus 1)) ⌝ }
 {
-    optional_date(utils::last_weekday_of_month(year, month, weekday))
+    nth_weekday_answer(year, month, weekday, -1)
 }
 
 // [easter]: none outside years 1 to 9999.

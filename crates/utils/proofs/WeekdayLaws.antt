@@ -1,26 +1,35 @@
--- The laws of the nth and the last weekday of a month, for any weekday and month.
+-- The laws of the nth weekday of a month, for any weekday, month and signed n.
 -- Assumes nothing.
 use Prim.Native.Nat.{ℕ, zero, suc, _+_, _-_, _*_, _%_, _≤_, _<_}
 use mathlib.Core.Path.{_≡_, refl, ap, ap₂, sym, _∙_, subst}
-use mathlib.Core.Bool.{Bool, true, false, cond, _&&_}
-use lib.Dec.{leb, eqb}
+use mathlib.Core.Bool.{Bool, true, false, cond, _&&_, _||_}
+use lib.Dec.{leb, ltb, eqb, lit≤}
+use lib.IntN.{ℤ, pos, negsuc}
 use native.Mathlib.Omega.{arith}
-use borrow.Author.Tests.{leb-true, eqb-true, eqb-false, le-leb, le-ltb, lt-ltb, eq-eqb, ne-eqb}
-use Rattle.gregorian.specs.Calendar.{monthLength, dayNumber, lastDay, isDate, dayAfter, dateOf, date, weekdayOf}
+use native.Mathlib.Decide.{decLt}
+use borrow.Author.Tests.{leb-true, ltb-true, eqb-true, eqb-false, le-leb, lt-leb, le-ltb, lt-ltb, eq-eqb, ne-eqb}
+use Rattle.gregorian.specs.Calendar.{monthLength, dayNumber, lastYear, lastDay, isDate, dayAfter, dateOf, date, weekdayOf}
 use Rattle.gregorian.specs.Inner.{Exists}
 use Rattle.gregorian.specs.declared.Date.{Date}
 use Rattle.gregorian.proofs.Tests.{and-left, and-right}
-use Rattle.gregorian.proofs.Laws.{days-on, is-date, date-is, month-low, next-number, number-range, date-of-number}
+use Rattle.gregorian.proofs.Laws.{days-on, is-date, date-is, date-by, month-low, next-number, number-range, date-of-number}
 use Rattle.gregorian.proofs.Weekdays.{weekday-weeks}
 use Rattle.utils.specs.declared.OptionalDay.{OptionalDay}
 use Rattle.utils.specs.declared.OptionalDay.the-variants.{Day, None}
-use Rattle.utils.specs.Weekday.{firstFrom, targetDay, ifInMonth, nthWeekdayOfMonth, lastUpTo, nextMonth, nextYear, firstOfNext, lastWeekdayOfMonth, mapDay}
+use Rattle.utils.specs.Weekday.{mapDay, thenDay, ifInMonth, firstFrom, targetDay, nthFromStart, lastUpTo, nextMonth, nextYear, firstOfNext, lastWeekdayOfMonth, weeksBefore, nthFromEnd, mostNth, nthWeekdayOfMonth}
 use Rattle.utils.specs.Inner.{InYears}
 
 -- what a test that leads to a day or to None says where there is a day
 pub when-day : (b : Bool) (x : OptionalDay) (t : ℕ) → cond b x None ≡ Day t → (b ≡ true) × (x ≡ Day t)
 when-day true x t e = (refl, e)
 when-day false x t e = (cc, cc)
+
+never : (b : Bool) → cond b None None ≡ None
+never true = refl
+never false = refl
+
+none-no-day : (t : ℕ) → None ≡ Day t → ⊥
+none-no-day t e = let z : _≡_ {A = ℕ} 0 1 = cc in omega arith
 
 -- The first w from day s on is a w, one of seven days, and no day before it is a w.
 pub first-is : (s w : ℕ) → w ≤ 6 → weekdayOf (firstFrom s w) ≡ w
@@ -35,44 +44,29 @@ pub first-least : (s w u : ℕ) → w ≤ 6 → s ≤ u → u < firstFrom s w �
 unfolding firstFrom weekdayOf
 first-least s w u h l k e = omega arith
 
--- The nth weekday is that weekday, n - 1 weeks after the first of the month, in a month of that number.
-pub record NthWeekday (y m w n t : ℕ) : Type 0 where
-  pub weekday : weekdayOf t ≡ w
-  pub weeks : t ≡ firstFrom (dayNumber y m 1) w + 7 * (n - 1)
-  pub month : dateOf t .month ≡ m
+-- ---- the month of the target
 
-pub nth-weekday : (y m w n t : ℕ) → nthWeekdayOfMonth y m w n ≡ Day t → NthWeekday y m w n t
-unfolding nthWeekdayOfMonth ifInMonth targetDay
-nth-weekday y m w n t e =
-    let s = firstFrom (dayNumber y m 1) w in
-    let c = when-day (isDate y m 1 && leb w 6 && leb 1 n) _ t e in
-    let d = when-day (leb (s + 7 * (n - 1)) lastDay && eqb (dateOf (s + 7 * (n - 1)) .month) m) _ t (c .1) in
-    let q : s + 7 * (n - 1) ≡ t = cc (d .1) in
-    let w6 = leb-true w 6 (and-right (isDate y m 1) _ (and-left (isDate y m 1 && leb w 6) _ (c .0))) in
-    let k = eqb-true _ _ (and-right (leb (s + 7 * (n - 1)) lastDay) _ (d .0)) in
-    record {
-      weekday = ap weekdayOf (sym q) ∙ weekday-weeks s (n - 1) ∙ first-is (dayNumber y m 1) w w6;
-      weeks = sym q;
-      month = ap (λ (i : ℕ). dateOf i .month) (sym q) ∙ k;
-    }
+-- Only the month's number is compared: what is kept, and that wherever the target lies in such a month it is kept.
+kept : (m t u : ℕ) → ifInMonth m u ≡ Day t → (u ≡ t) × (t ≤ lastDay) × (dateOf t .month ≡ m)
+unfolding ifInMonth
+kept m t u e =
+    let c = when-day (leb u lastDay && eqb (dateOf u .month) m) (Day u) t e in
+    let q : u ≡ t = cc (c .1) in
+    let l = leb-true u lastDay (and-left (leb u lastDay) _ (c .0)) in
+    (q, omega (arith, q, l), ap (λ (i : ℕ). dateOf i .month) (sym q) ∙ eqb-true _ _ (and-right (leb u lastDay) _ (c .0)))
 
--- Only the month's number is compared: wherever the target lies in such a month, it is the answer.
-pub nth-found : (y m w n : ℕ) → isDate y m 1 ≡ true → w ≤ 6 → 1 ≤ n → targetDay y m w n ≤ lastDay → dateOf (targetDay y m w n) .month ≡ m → nthWeekdayOfMonth y m w n ≡ Day (targetDay y m w n)
-unfolding nthWeekdayOfMonth ifInMonth
-nth-found y m w n h w6 n1 l e = simp (h, le-leb w 6 w6, le-leb 1 n n1, le-leb _ lastDay l, eq-eqb _ m e)
+keeps : (m t : ℕ) → t ≤ lastDay → dateOf t .month ≡ m → ifInMonth m t ≡ Day t
+unfolding ifInMonth
+keeps m t l e = simp (le-leb _ lastDay l, eq-eqb _ m e)
 
--- The first four are in the month itself.
-pub nth-early : (y m w n : ℕ) → isDate y m 1 ≡ true → w ≤ 6 → 1 ≤ n → n ≤ 4 → nthWeekdayOfMonth y m w n ≡ Day (targetDay y m w n)
-unfolding targetDay
-nth-early y m w n h w6 n1 n4 =
-    let f = first-near (dayNumber y m 1) w in
+-- Day j + 1 of a month that has it is kept.
+in-month : (y m j t : ℕ) → isDate y m 1 ≡ true → j < monthLength y m → t ≡ dayNumber y m 1 + j → ifInMonth m t ≡ Day t
+in-month y m j t h l e =
     let x = is-date y m 1 h .exists in
-    let k = firstFrom (dayNumber y m 1) w + 7 * (n - 1) - dayNumber y m 1 in
-    let g : Exists y m (1 + k) =
-    record { y-low = x .y-low; m-low = x .m-low; m-high = x .m-high; d-low = omega arith; d-high = omega (arith, f, month-low y m (x .m-low) (x .m-high)) } in
-    let q : targetDay y m w n ≡ dayNumber y m (1 + k) = omega (arith, f, days-on y m 1 k) in
-    let r = number-range y m (1 + k) (date-is y m (1 + k) (record { exists = g; y-high = is-date y m 1 h .y-high })) in
-    nth-found y m w n h w6 n1 (omega (arith, q, r)) (ap (λ (i : ℕ). dateOf i .month) q ∙ ap (λ (t : Date). t .month) (date-of-number (date y m (1 + k)) g))
+    let g : Exists y m (1 + j) = record { y-low = x .y-low; m-low = x .m-low; m-high = x .m-high; d-low = omega arith; d-high = omega arith } in
+    let q : t ≡ dayNumber y m (1 + j) = e ∙ sym (days-on y m 1 j) in
+    let r = number-range y m (1 + j) (date-is y m (1 + j) (record { exists = g; y-high = is-date y m 1 h .y-high })) in
+    keeps m t (omega (arith, q, r)) (ap (λ (i : ℕ). dateOf i .month) q ∙ ap (λ (t : Date). t .month) (date-of-number (date y m (1 + j)) g))
 
 -- The loop of the last weekday ends (weekdayOf n + 7 - w) % 7 days back.
 last-step : (w n : ℕ) → lastUpTo w (suc n) ≡ cond (eqb (weekdayOf (suc n)) w) (suc n) (lastUpTo w n)
@@ -119,41 +113,29 @@ month-end y m h =
     month-end-by y m _ refl
     (record { y-low = x .y-low; m-low = x .m-low; m-high = x .m-high; d-low = omega (arith, month-low y m (x .m-low) (x .m-high)); d-high = omega arith })
 
--- first_of_next from the year and the month that it computes, where that is a month and where it is none
-module _ (y m y′ m′ : ℕ) (p : y′ ≡ nextYear y m) (q : m′ ≡ nextMonth m) where
-  next-first : cond (isDate y′ m′ 1) (Day (dayNumber y′ m′ 1)) None ≡ firstOfNext y m
-  unfolding firstOfNext
-  next-first = ap₂ (λ (i j : ℕ). cond (isDate i j 1) (Day (dayNumber i j 1)) None) p q
+-- Every month but December 9999 has a next one.
+pub next-month : (y m : ℕ) → isDate y m 1 ≡ true → (ltb m 12 || ltb y lastYear) ≡ isDate (nextYear y m) (nextMonth m) 1
+unfolding isDate monthLength
+next-month y m h =
+    let g = is-date y m 1 h in
+    let x = g .exists in
+    elim (decLt m 12) [
+      | yes a ↦ simp (lt-ltb m 12 a, ne-eqb m 12 (omega arith)) (sym (date-by y (m + 1) 1 (x .y-low, g .y-high) (omega arith, omega arith) (omega arith, omega (arith, month-low y (m + 1) (omega arith) (omega arith)))))
+      | no a ↦ let q : m ≡ 12 = omega (arith, x .m-high) in elim (decLt y lastYear) [
+        | yes b ↦ simp (le-ltb m 12 (omega arith), lt-ltb y lastYear b, eq-eqb m 12 q) (sym (date-by (y + 1) 1 1 (omega arith, omega arith) (omega arith, omega arith) (omega arith, omega arith)))
+        | no b ↦ simp (le-ltb m 12 (omega arith), le-ltb y lastYear (omega arith), eq-eqb m 12 q, lt-leb (y + 1) lastYear (omega arith), le-leb 1 (y + 1) (omega arith))
+      ]
+    ]
 
-  pub next-day : (r : ℕ) → isDate y′ m′ 1 ≡ true → r ≡ dayNumber y′ m′ 1 → Day r ≡ firstOfNext y m
-  next-day r e f = ap Day f ∙ (rw e at next-first)
+-- ---- the last weekday
 
-  pub next-none : isDate y′ m′ 1 ≡ false → None ≡ firstOfNext y m
-  next-none e = rw e at next-first
+abbrev pub lastOf : ℕ → ℕ → ℕ → ℕ
+lastOf y m w = lastUpTo w (dayNumber y m (monthLength y m))
 
--- What first_of_next says: it is the day after the last of the month, which is its 28th or later.
-pub record FirstOfNext (y m n : ℕ) : Type 0 where
-  pub after-last : n ≡ dayNumber y m (monthLength y m) + 1
-  pub after-28th : dayNumber y m 1 + 28 ≤ n
-  pub high : n ≤ lastDay
-
-pub first-of-next : (y m n : ℕ) → isDate y m 1 ≡ true → firstOfNext y m ≡ Day n → FirstOfNext y m n
-unfolding firstOfNext dayNumber
-first-of-next y m n h e =
-    let c = when-day (isDate (nextYear y m) (nextMonth m) 1) (Day (dayNumber (nextYear y m) (nextMonth m) 1)) n e in
-    let q : dayNumber (nextYear y m) (nextMonth m) 1 ≡ n = cc (c .1) in
-    let x = is-date y m 1 h .exists in
-    let f = month-end y m h in
-    record {
-      after-last = sym q ∙ f;
-      after-28th = omega (arith, q, f, month-low y m (x .m-low) (x .m-high));
-      high = omega (arith, q, number-range (nextYear y m) (nextMonth m) 1 (c .0));
-    }
-
--- The last weekday is that weekday, in the month, and no later day of the month is one.
+-- The last w of a month is that weekday, from the 22nd on, and no later day of the month is one.
 pub record LastWeekday (y m w t : ℕ) : Type 0 where
   pub weekday : weekdayOf t ≡ w
-  pub from-first : dayNumber y m 1 ≤ t
+  pub from-22nd : dayNumber y m 1 + 21 ≤ t
   pub to-last : t ≤ dayNumber y m (monthLength y m)
   pub greatest : (u : ℕ) → t < u → u ≤ dayNumber y m (monthLength y m) → weekdayOf u ≡ w → ⊥
 
@@ -167,61 +149,194 @@ last-none : (w n u : ℕ) → w ≤ 6 → 6 ≤ n → lastUpTo w n < u → u ≤
 unfolding weekdayOf
 last-none w n u h l k j e = omega (arith, last-up-to w n h l)
 
-in-month : (y m w n : ℕ) → w ≤ 6 → FirstOfNext y m n → LastWeekday y m w (lastUpTo w (n - 1))
-in-month y m w n w6 f =
-    let i = last-is w (n - 1) w6 (omega (arith, f .after-28th)) in
+pub last-of-month : (y m : ℕ) → isDate y m 1 ≡ true → isDate y m (monthLength y m) ≡ true
+last-of-month y m h =
+    let g = is-date y m 1 h in
+    let x = g .exists in
+    date-by y m (monthLength y m) (x .y-low, g .y-high) (x .m-low, x .m-high) (x .d-high, omega arith)
+
+pub to-28th : (y m : ℕ) → isDate y m 1 ≡ true → dayNumber y m 1 + 27 ≤ dayNumber y m (monthLength y m)
+unfolding dayNumber
+to-28th y m h =
+    let x = is-date y m 1 h .exists in
+    omega (arith, month-low y m (x .m-low) (x .m-high))
+
+pub last-weekday : (y m w : ℕ) → isDate y m 1 ≡ true → w ≤ 6 → LastWeekday y m w (lastOf y m w)
+last-weekday y m w h w6 =
+    let n = dayNumber y m (monthLength y m) in
+    let k = to-28th y m h in
+    let i = last-is w n w6 (omega (arith, k)) in
     record {
       weekday = i .0;
-      from-first = omega (arith, f .after-28th, i);
-      to-last = omega (arith, f .after-last, f .after-28th, i);
-      greatest = λ u a b. last-none w (n - 1) u w6 (omega (arith, f .after-28th)) a (omega (arith, f .after-last));
+      from-22nd = omega (arith, k, i);
+      to-last = i .1 .1;
+      greatest = λ u. last-none w n u w6 (omega (arith, k));
     }
 
--- What last_weekday_of_month answers is none, or has what is claimed of each such day.
-last-cases : (P : OptionalDay → Type 0) (y m w : ℕ) → P None → ((n : ℕ) → FirstOfNext y m n → LastWeekday y m w (lastUpTo w (n - 1)) → P (Day (lastUpTo w (n - 1)))) → P (lastWeekdayOfMonth y m w)
-unfolding lastWeekdayOfMonth
-last-cases P y m w z h = by-test _ _ refl refl
-  where
-    by-test : (b : Bool) (r : OptionalDay) → (isDate y m 1 && leb w 6) ≡ b → firstOfNext y m ≡ r → P (cond b (mapDay (λ n. lastUpTo w (n - 1)) r) None)
-    by-test false r e q = z
-    by-test true None e q = z
-    by-test true (Day n) e q =
-        let f = first-of-next y m n (and-left (isDate y m 1) _ e) q in
-        h n f (in-month y m w n (leb-true w 6 (and-right (isDate y m 1) _ e)) f)
-
-pub last-weekday : (y m w t : ℕ) → lastWeekdayOfMonth y m w ≡ Day t → LastWeekday y m w t
-last-weekday y m w =
-    last-cases (λ r. (t : ℕ) → r ≡ Day t → LastWeekday y m w t) y m w (λ t e. absurd (never t e))
-    (λ n f l t e. subst (LastWeekday y m w) (same t e) l)
-  where
-    never : (t : ℕ) → None ≡ Day t → ⊥
-    never t e = let z : _≡_ {A = ℕ} 0 1 = cc in omega arith
-
-    same : {s : ℕ} (t : ℕ) → Day s ≡ Day t → s ≡ t
-    same t e = cc
-
--- There is one wherever the month, the weekday and the first of the next month are in range.
-pub last-found : (y m w : ℕ) → isDate y m 1 ≡ true → w ≤ 6 → isDate (nextYear y m) (nextMonth m) 1 ≡ true → lastWeekdayOfMonth y m w ≡ Day (lastUpTo w (dayNumber (nextYear y m) (nextMonth m) 1 - 1))
+-- It is the answer wherever there is a next month, and nowhere else.
+pub last-found : (y m w : ℕ) → isDate y m 1 ≡ true → w ≤ 6 → isDate (nextYear y m) (nextMonth m) 1 ≡ true → lastWeekdayOfMonth y m w ≡ Day (lastOf y m w)
 unfolding lastWeekdayOfMonth firstOfNext
-last-found y m w h w6 n = simp (h, le-leb w 6 w6, n)
+last-found y m w h w6 n =
+    let before : dayNumber (nextYear y m) (nextMonth m) 1 - 1 ≡ dayNumber y m (monthLength y m) = omega (arith, month-end y m h) in
+    simp (h, le-leb w 6 w6, n) (ap (λ (i : ℕ). Day (lastUpTo w i)) before)
+
+pub last-without-next : (y m w : ℕ) → isDate y m 1 ≡ true → w ≤ 6 → isDate (nextYear y m) (nextMonth m) 1 ≡ false → lastWeekdayOfMonth y m w ≡ None
+unfolding lastWeekdayOfMonth firstOfNext
+last-without-next y m w h w6 n = simp (h, le-leb w 6 w6, n)
+
+pub record HasLast (y m w : ℕ) : Type 0 where
+  pub is-month : isDate y m 1 ≡ true
+  pub is-weekday : w ≤ 6
+  pub has-next : isDate (nextYear y m) (nextMonth m) 1 ≡ true
+
+has-last : (y m w t : ℕ) → lastWeekdayOfMonth y m w ≡ Day t → HasLast y m w
+unfolding lastWeekdayOfMonth firstOfNext
+has-last y m w t e =
+    let c = when-day (isDate y m 1 && leb w 6) _ t e in
+    record {
+      is-month = and-left (isDate y m 1) _ (c .0);
+      is-weekday = leb-true w 6 (and-right (isDate y m 1) _ (c .0));
+      has-next = by (isDate (nextYear y m) (nextMonth m) 1) _ (c .1);
+    }
+  where
+    by : (b : Bool) (n : ℕ) → mapDay (λ n. lastUpTo w (n - 1)) (cond b (Day n) None) ≡ Day t → b ≡ true
+    by true n q = refl
+    by false n q = absurd (none-no-day t q)
+
+-- ---- n weeks from the first, or from the last
+
+-- The first four are in the month itself, and so are the last four.
+pub nth-early : (y m w n : ℕ) → isDate y m 1 ≡ true → w ≤ 6 → 1 ≤ n → n ≤ 4 → nthFromStart y m w n ≡ Day (targetDay y m w n)
+unfolding nthFromStart targetDay
+nth-early y m w n h w6 n1 n4 =
+    let f = first-near (dayNumber y m 1) w in
+    let x = is-date y m 1 h .exists in
+    let t = firstFrom (dayNumber y m 1) w + 7 * (n - 1) in
+    simp (h, le-leb w 6 w6, le-leb 1 n n1)
+    (in-month y m (t - dayNumber y m 1) t h (omega (arith, f, month-low y m (x .m-low) (x .m-high))) (omega (arith, f)))
+
+before-found : (m k t s : ℕ) → s ≡ t + 7 * k → 1 ≤ t → ifInMonth m t ≡ Day t → weeksBefore m k s ≡ Day t
+unfolding weeksBefore
+before-found m k t s e l f =
+    let q : s - 7 * k ≡ t = omega arith in
+    simp (lt-ltb (7 * k) s (omega arith), q) f
+
+pub end-early : (y m w k : ℕ) → HasLast y m w → k ≤ 3 → nthFromEnd y m w k ≡ Day (lastOf y m w - 7 * k)
+unfolding nthFromEnd dayNumber
+end-early y m w k h k3 =
+    let l = last-weekday y m w (h .is-month) (h .is-weekday) in
+    let t = lastOf y m w - 7 * k in
+    simp (last-found y m w (h .is-month) (h .is-weekday) (h .has-next))
+    (before-found m k t (lastOf y m w) (omega (arith, l .from-22nd)) (omega (arith, l .from-22nd))
+    (in-month y m (t - dayNumber y m 1) t (h .is-month) (omega (arith, l .from-22nd, l .to-last)) (omega (arith, l .from-22nd))))
+
+-- n = -1 is the last.
+pub nth-last : (y m w : ℕ) → nthFromEnd y m w 0 ≡ lastWeekdayOfMonth y m w
+unfolding nthFromEnd
+nth-last y m w = by (lastWeekdayOfMonth y m w) refl
+  where
+    by : (r : OptionalDay) → lastWeekdayOfMonth y m w ≡ r → thenDay (weeksBefore m 0) r ≡ r
+    by (Day t) e =
+        let h = has-last y m w t e in
+        let q = last-found y m w (h .is-month) (h .is-weekday) (h .has-next) in
+        ap (thenDay (weeksBefore m 0)) (sym e) ∙ end-early y m w 0 h (lit≤ tt) ∙ ap Day (omega arith) ∙ sym q ∙ e
+    by None e = refl
+
+-- ---- signed
+
+-- so many weeks after the first w of the month or, below 0, before the last
+abbrev pub Weeks : ℕ → ℕ → ℕ → ℤ → ℕ → Type 0
+Weeks y m w (pos n) t = t ≡ firstFrom (dayNumber y m 1) w + 7 * (n - 1)
+Weeks y m w (negsuc k) t = t + 7 * k ≡ lastOf y m w
+
+-- the n that can have an answer in the month
+abbrev pub InLimits : ℕ → ℕ → ℤ → Type 0
+InLimits y m (pos n) = (1 ≤ n) × (n ≤ mostNth)
+InLimits y m (negsuc k) = (k < mostNth) × (isDate (nextYear y m) (nextMonth m) 1 ≡ true)
+
+-- What an answer says: that weekday, so many weeks on or back, in a month of that number.
+pub record NthWeekday (y m w : ℕ) (n : ℤ) (t : ℕ) : Type 0 where
+  pub is-month : isDate y m 1 ≡ true
+  pub is-weekday : w ≤ 6
+  pub limits : InLimits y m n
+  pub weeks : Weeks y m w n t
+  pub month : dateOf t .month ≡ m
+  pub low : 1 ≤ t
+  pub high : t ≤ lastDay
+
+from-start : (y m w n t : ℕ) → n ≤ mostNth → nthFromStart y m w n ≡ Day t → NthWeekday y m w (pos n) t
+unfolding nthFromStart targetDay
+from-start y m w n t h e =
+    let c = when-day (isDate y m 1 && leb w 6 && leb 1 n) _ t e in
+    let asked = and-left (isDate y m 1 && leb w 6) _ (c .0) in
+    let is-month = and-left (isDate y m 1) _ asked in
+    let k = kept m t _ (c .1) in
+    record {
+      is-month = is-month;
+      is-weekday = leb-true w 6 (and-right (isDate y m 1) _ asked);
+      limits = (leb-true 1 n (and-right (isDate y m 1 && leb w 6) _ (c .0)), h);
+      weeks = sym (k .0);
+      month = k .2;
+      low = omega (arith, k .0, first-near (dayNumber y m 1) w, number-range y m 1 is-month);
+      high = k .1;
+    }
+
+from-end : (y m w k t : ℕ) → k < mostNth → nthFromEnd y m w k ≡ Day t → NthWeekday y m w (negsuc k) t
+unfolding nthFromEnd weeksBefore
+from-end y m w k t h e = by (lastWeekdayOfMonth y m w) refl e
+  where
+    by : (r : OptionalDay) → lastWeekdayOfMonth y m w ≡ r → thenDay (weeksBefore m k) r ≡ Day t → NthWeekday y m w (negsuc k) t
+    by (Day s) p q =
+        let l = has-last y m w s p in
+        let same : lastOf y m w ≡ s = cc (last-found y m w (l .is-month) (l .is-weekday) (l .has-next)) in
+        let c = when-day (ltb (7 * k) s) _ t q in
+        let b = ltb-true (7 * k) s (c .0) in
+        let i = kept m t (s - 7 * k) (c .1) in
+        record {
+          is-month = l .is-month;
+          is-weekday = l .is-weekday;
+          limits = (h, l .has-next);
+          weeks = omega (arith, same, i .0);
+          month = i .2;
+          low = omega (arith, i .0);
+          high = i .1;
+        }
+    by None p q = absurd (none-no-day t q)
+
+pub nth-weekday : (y m w : ℕ) (n : ℤ) (t : ℕ) → nthWeekdayOfMonth y m w n ≡ Day t → NthWeekday y m w n t
+nth-weekday y m w (pos n) t e =
+    let c = when-day (leb n mostNth) _ t e in
+    from-start y m w n t (leb-true n mostNth (c .0)) (c .1)
+nth-weekday y m w (negsuc k) t e =
+    let c = when-day (ltb k mostNth) _ t e in
+    from-end y m w k t (ltb-true k mostNth (c .0)) (c .1)
+
+-- There is no answer without a month or a weekday.
+pub not-asked : (y m w : ℕ) (n : ℤ) → (isDate y m 1 && leb w 6) ≡ false → nthWeekdayOfMonth y m w n ≡ None
+unfolding nthFromStart nthFromEnd lastWeekdayOfMonth
+not-asked y m w (pos n) e = simp e (never (leb n mostNth))
+not-asked y m w (negsuc k) e = simp e (never (ltb k mostNth))
+
+-- Wherever the target lies in such a month, it is the answer.
+pub nth-found : (y m w : ℕ) (n : ℤ) (t : ℕ) → NthWeekday y m w n t → nthWeekdayOfMonth y m w n ≡ Day t
+unfolding nthFromStart targetDay nthFromEnd
+nth-found y m w (pos n) t d =
+    simp (le-leb n mostNth (d .limits .1), d .is-month, le-leb w 6 (d .is-weekday), le-leb 1 n (d .limits .0))
+    (ap (ifInMonth m) (sym (d .weeks)) ∙ keeps m t (d .high) (d .month))
+nth-found y m w (negsuc k) t d =
+    simp (lt-ltb k mostNth (d .limits .0), last-found y m w (d .is-month) (d .is-weekday) (d .limits .1))
+    (before-found m k t (lastOf y m w) (sym (d .weeks)) (d .low) (keeps m t (d .high) (d .month)))
+
+pub weekday-is : (y m w : ℕ) (n : ℤ) (t : ℕ) → NthWeekday y m w n t → weekdayOf t ≡ w
+weekday-is y m w (pos n) t d =
+    ap weekdayOf (d .weeks) ∙ weekday-weeks (firstFrom (dayNumber y m 1) w) (n - 1) ∙ first-is (dayNumber y m 1) w (d .is-weekday)
+weekday-is y m w (negsuc k) t d =
+    sym (weekday-weeks t k) ∙ ap weekdayOf (d .weeks) ∙ last-weekday y m w (d .is-month) (d .is-weekday) .weekday
 
 -- Each answer is a day of years 1 to 9999, or none.
-when-in-years : (b : Bool) (x : OptionalDay) → (b ≡ true → InYears x) → InYears (cond b x None)
-when-in-years true x h = h refl
-when-in-years false x h = tt
-
-pub nth-in-years : (y m w n : ℕ) → InYears (nthWeekdayOfMonth y m w n)
-unfolding nthWeekdayOfMonth ifInMonth targetDay
-nth-in-years y m w n =
-    let s = firstFrom (dayNumber y m 1) w in
-    when-in-years (isDate y m 1 && leb w 6 && leb 1 n) _
-    (λ c.
-    let h = and-left (isDate y m 1) _ (and-left (isDate y m 1 && leb w 6) _ c) in
-    when-in-years (leb (s + 7 * (n - 1)) lastDay && eqb (dateOf (s + 7 * (n - 1)) .month) m) _
-    (λ d. (omega (arith, first-near (dayNumber y m 1) w, number-range y m 1 h), leb-true _ lastDay (and-left (leb (s + 7 * (n - 1)) lastDay) _ d))))
-
-pub last-in-years : (y m w : ℕ) → InYears (lastWeekdayOfMonth y m w)
-unfolding dayNumber
-last-in-years y m w =
-    last-cases InYears y m w tt
-    (λ n f l. (omega (arith, l .from-first), omega (arith, l .to-last, f .after-last, f .high)))
+pub nth-in-years : (y m w : ℕ) (n : ℤ) → InYears (nthWeekdayOfMonth y m w n)
+nth-in-years y m w n = by (nthWeekdayOfMonth y m w n) refl
+  where
+    by : (r : OptionalDay) → nthWeekdayOfMonth y m w n ≡ r → InYears r
+    by (Day t) e = let d = nth-weekday y m w n t e in (d .low, d .high)
+    by None e = tt

@@ -1,8 +1,9 @@
--- The nth and the last weekday of a month, as src/utils/mod.rs has them: docs/SCOPE.md [nth-weekday], [last-weekday].
--- Weekdays are 0 Monday to 6 Sunday; days are day numbers. Assumes nothing.
+-- The nth weekday of a month, from its start or from its end, as src/utils/mod.rs has the nth and the last, with n signed by N4:
+-- docs/SCOPE.md [nth-weekday], [last-weekday]. Weekdays are 0 Monday to 6 Sunday; days are day numbers. Assumes nothing.
 use Prim.Native.Nat.{ℕ, zero, suc, _+_, _-_, _*_, _%_}
 use mathlib.Core.Bool.{cond, _&&_}
-use lib.Dec.{leb, eqb}
+use lib.Dec.{leb, ltb, eqb}
+use lib.IntN.{ℤ, pos, negsuc, negℤ}
 use Rattle.gregorian.specs.Calendar.{lastDay, isDate, dayNumber, dateOf, weekdayOf}
 use Rattle.utils.specs.declared.OptionalDay.{OptionalDay}
 use Rattle.utils.specs.declared.OptionalDay.the-variants.{Day, None}
@@ -12,6 +13,17 @@ abbrev pub mapDay : (ℕ → ℕ) → OptionalDay → OptionalDay
 mapDay f (Day n) = Day (f n)
 mapDay f None = None
 
+-- the same, where what follows may be None too
+abbrev pub thenDay : (ℕ → OptionalDay) → OptionalDay → OptionalDay
+thenDay f (Day n) = f n
+thenDay f None = None
+
+-- Day t if its month has the number m, in whatever year; None also past 9999-12-31 (added).
+unfoldable pub ifInMonth : ℕ → ℕ → OptionalDay
+ifInMonth m t = cond (leb t lastDay && eqb (dateOf t .month) m) (Day t) None
+
+-- ---- from the start
+
 -- The first day from day s on that is a w: the Rust's first_day plus days_to_add.
 unfoldable pub firstFrom : ℕ → ℕ → ℕ
 firstFrom s w = s + (w + 7 - weekdayOf s) % 7
@@ -20,13 +32,11 @@ firstFrom s w = s + (w + 7 - weekdayOf s) % 7
 unfoldable pub targetDay : ℕ → ℕ → ℕ → ℕ → ℕ
 targetDay y m w n = firstFrom (dayNumber y m 1) w + 7 * (n - 1)
 
--- Day t if its month has the number m, in whatever year; None also past 9999-12-31 (added).
-unfoldable pub ifInMonth : ℕ → ℕ → OptionalDay
-ifInMonth m t = cond (leb t lastDay && eqb (dateOf t .month) m) (Day t) None
-
 -- nth_weekday_of_month; None also for n = 0, a weekday above 6, and a month or a year outside (added)
-unfoldable pub nthWeekdayOfMonth : ℕ → ℕ → ℕ → ℕ → OptionalDay
-nthWeekdayOfMonth y m w n = cond (isDate y m 1 && leb w 6 && leb 1 n) (ifInMonth m (targetDay y m w n)) None
+unfoldable pub nthFromStart : ℕ → ℕ → ℕ → ℕ → OptionalDay
+nthFromStart y m w n = cond (isDate y m 1 && leb w 6 && leb 1 n) (ifInMonth m (targetDay y m w n)) None
+
+-- ---- from the end
 
 -- The last w on or before day n, by the Rust's loop, `while last_day.weekday() != weekday { last_day -= 1 }`; 0 if there is none, which
 -- no call meets.
@@ -50,3 +60,27 @@ firstOfNext y m = cond (isDate (nextYear y m) (nextMonth m) 1) (Day (dayNumber (
 unfoldable pub lastWeekdayOfMonth : ℕ → ℕ → ℕ → OptionalDay
 lastWeekdayOfMonth y m w =
     cond (isDate y m 1 && leb w 6) (mapDay (λ n. lastUpTo w (n - 1)) (firstOfNext y m)) None
+
+-- k weeks before day t, by the same comparison of the month; None also before 0001-01-01
+unfoldable pub weeksBefore : ℕ → ℕ → ℕ → OptionalDay
+weeksBefore m k t = cond (ltb (7 * k) t) (ifInMonth m (t - 7 * k)) None
+
+-- k weeks before the last w of the month
+unfoldable pub nthFromEnd : ℕ → ℕ → ℕ → ℕ → OptionalDay
+nthFromEnd y m w k = thenDay (weeksBefore m k) (lastWeekdayOfMonth y m w)
+
+-- ---- n signed
+
+-- how far n goes either way
+abbrev pub mostNth : ℕ
+mostNth = 255
+
+-- [nth-weekday]: from the start where n is above 0, back from the last w where it is below; None for 0 and beyond `mostNth`. negsuc k is
+-- -(k + 1), so -1 is the last w itself.
+abbrev pub nthWeekdayOfMonth : ℕ → ℕ → ℕ → ℤ → OptionalDay
+nthWeekdayOfMonth y m w (pos n) = cond (leb n mostNth) (nthFromStart y m w n) None
+nthWeekdayOfMonth y m w (negsuc k) = cond (ltb k mostNth) (nthFromEnd y m w k) None
+
+-- -n, as a rule writes it
+abbrev pub minus : ℕ → ℤ
+minus n = negℤ (pos n)

@@ -1,13 +1,15 @@
-// The nth and the last weekday of a month, and Easter, as src/utils of the Rust has them.
+// The nth weekday of a month, from its start or from its end, and Easter, as src/utils of the Rust has them.
 pub mod easter;
 
 ghost use mathlib.Core.Path.{_≡_};
 ghost use mathlib.Core.Bool.{true};
-ghost use Prim.Native.Nat.{_≤_};
+ghost use Prim.Native.Nat.{_≤_, _<_};
 ghost use lib.Dec.{eqb};
-ghost use Rattle.gregorian.specs.Calendar.{lastYear, dayNumber, isDate};
-ghost use Rattle.utils.specs.Weekday.{firstFrom, targetDay, ifInMonth, nthWeekdayOfMonth, nextMonth, nextYear, firstOfNext, lastUpTo, lastWeekdayOfMonth};
+ghost use lib.IntN.{pos, negsuc};
+ghost use Rattle.gregorian.specs.Calendar.{dayNumber, monthLength, isDate};
+ghost use Rattle.utils.specs.Weekday.{firstFrom, targetDay, ifInMonth, nextMonth, nextYear, lastUpTo, weeksBefore, mostNth, nthWeekdayOfMonth};
 use gregorian::Date;
+use signed::Signed;
 
 // In the place of the Rust's Option<NaiveDate>: a day number, or none.
 pub enum OptionalDay {
@@ -15,8 +17,11 @@ pub enum OptionalDay {
     None,
 }
 
+// How far n goes either way.
+const MOST_NTH: u32 = 255;
+
 // The day of the month, from 1 to 7, that is its first such weekday.
-pub fn first_weekday(year: u32, month: u32, weekday: u32) -> u32
+fn first_weekday(year: u32, month: u32, weekday: u32) -> u32
     requires { ⌜ (isDate year month 1 ≡ true) × (weekday ≤ 6) ⌝ }
     ensures { λ r. ⌜ (dayNumber year month r ≡ firstFrom (dayNumber year month 1) weekday) × (1 ≤ r) × (r ≤ 7) ⌝ }
 {
@@ -24,13 +29,13 @@ pub fn first_weekday(year: u32, month: u32, weekday: u32) -> u32
     1 + (weekday + 7 - gregorian::weekday(first_day)) % 7
 }
 
-// nth - 1 weeks after the first such weekday of the month.
-fn target_day(year: u32, month: u32, weekday: u32, nth: u8) -> u32
-    requires { ⌜ (isDate year month 1 ≡ true) × (weekday ≤ 6) × (1 ≤ nth) ⌝ }
-    ensures { λ r. ⌜ (r ≡ targetDay year month weekday nth) × (1 ≤ r) ⌝ }
+// n - 1 weeks after the first such weekday of the month.
+fn target_day(year: u32, month: u32, weekday: u32, n: u32) -> u32
+    requires { ⌜ (isDate year month 1 ≡ true) × (weekday ≤ 6) × (1 ≤ n) × (n ≤ mostNth) ⌝ }
+    ensures { λ r. ⌜ (r ≡ targetDay year month weekday n) × (1 ≤ r) ⌝ }
 {
     let first = first_weekday(year, month, weekday);
-    gregorian::day_number(year, month, first) + 7 * (nth as u32 - 1)
+    gregorian::day_number(year, month, first) + 7 * (n - 1)
 }
 
 // The year is not compared.
@@ -55,21 +60,19 @@ fn if_in_month(first_day: Date, target: u32) -> OptionalDay
     }
 }
 
-// [nth-weekday]. The first four are always in the month, and need no look at the target's month.
-pub fn nth_weekday_of_month(year: u32, month: u32, weekday: u32, nth: u8) -> OptionalDay
-    ensures { λ r. ⌜ r ≡ nthWeekdayOfMonth year month weekday nth ⌝ }
+// The first four are always in the month, and need no look at the target's month.
+fn nth_from_start(year: u32, month: u32, weekday: u32, n: u32) -> OptionalDay
+    requires { ⌜ (isDate year month 1 ≡ true) × (weekday ≤ 6) ⌝ }
+    ensures { λ r. ⌜ r ≡ nthWeekdayOfMonth year month weekday (pos n) ⌝ }
 {
-    if !gregorian::is_date(year, month, 1) {
+    if n < 1 {
         return OptionalDay::None;
     }
-    if 6 < weekday {
+    if MOST_NTH < n {
         return OptionalDay::None;
     }
-    if nth < 1 {
-        return OptionalDay::None;
-    }
-    let target = target_day(year, month, weekday, nth);
-    if nth < 5 {
+    let target = target_day(year, month, weekday, n);
+    if n < 5 {
         return OptionalDay::Day(target);
     }
     let first_day = Date {
@@ -80,33 +83,6 @@ pub fn nth_weekday_of_month(year: u32, month: u32, weekday: u32, nth: u8) -> Opt
     if_in_month(first_day, target)
 }
 
-fn next_month(month: u32) -> u32
-    requires { ⌜ month ≤ 12 ⌝ }
-    ensures { λ r. ⌜ r ≡ nextMonth month ⌝ }
-{
-    if month == 12 { 1 } else { month + 1 }
-}
-
-fn next_year(year: u32, month: u32) -> u32
-    requires { ⌜ year ≤ lastYear ⌝ }
-    ensures { λ r. ⌜ r ≡ nextYear year month ⌝ }
-{
-    if month == 12 { year + 1 } else { year }
-}
-
-fn first_of_next(year: u32, month: u32) -> OptionalDay
-    requires { ⌜ isDate year month 1 ≡ true ⌝ }
-    ensures { λ r. ⌜ r ≡ firstOfNext year month ⌝ }
-{
-    let next_month = next_month(month);
-    let next_year = next_year(year, month);
-    if gregorian::is_date(next_year, next_month, 1) {
-        OptionalDay::Day(gregorian::day_number(next_year, next_month, 1))
-    } else {
-        OptionalDay::None
-    }
-}
-
 // The last such weekday up to day n: one of the seven days that end there.
 pub fn last_up_to(weekday: u32, n: u32) -> u32
     requires { ⌜ (weekday ≤ 6) × (7 ≤ n) ⌝ }
@@ -115,9 +91,61 @@ pub fn last_up_to(weekday: u32, n: u32) -> u32
     n - (gregorian::weekday(n) + 7 - weekday) % 7
 }
 
-// [last-weekday]
-pub fn last_weekday_of_month(year: u32, month: u32, weekday: u32) -> OptionalDay
-    ensures { λ r. ⌜ r ≡ lastWeekdayOfMonth year month weekday ⌝ }
+// The last such weekday of the month.
+fn last_weekday(year: u32, month: u32, weekday: u32) -> u32
+    requires { ⌜ (isDate year month 1 ≡ true) × (weekday ≤ 6) ⌝ }
+    ensures { λ r. ⌜ r ≡ lastUpTo weekday (dayNumber year month (monthLength year month)) ⌝ }
+{
+    let length = gregorian::days_in_month(year, month);
+    last_up_to(weekday, gregorian::day_number(year, month, length))
+}
+
+// Every month but December 9999 has a next one.
+fn has_next_month(year: u32, month: u32) -> bool
+    requires { ⌜ isDate year month 1 ≡ true ⌝ }
+    ensures { λ r. ⌜ r ≡ isDate (nextYear year month) (nextMonth month) 1 ⌝ }
+{
+    (month < 12) | (year < gregorian::LAST_YEAR)
+}
+
+// k weeks before a day, if that is in a month of the same number as the first day.
+fn weeks_before(first_day: Date, k: u32, day: u32) -> OptionalDay
+    requires { ⌜ k < mostNth ⌝ }
+    ensures { λ r. ⌜ r ≡ weeksBefore («first_day» .month) k day ⌝ }
+{
+    let days = 7 * k;
+    if day <= days {
+        return OptionalDay::None;
+    }
+    if_in_month(first_day, day - days)
+}
+
+// k weeks before the last one. The last four are always in the month.
+fn nth_from_end(year: u32, month: u32, weekday: u32, k: u32) -> OptionalDay
+    requires { ⌜ (isDate year month 1 ≡ true) × (weekday ≤ 6) ⌝ }
+    ensures { λ r. ⌜ r ≡ nthWeekdayOfMonth year month weekday (negsuc k) ⌝ }
+{
+    if MOST_NTH <= k {
+        return OptionalDay::None;
+    }
+    if !has_next_month(year, month) {
+        return OptionalDay::None;
+    }
+    let last = last_weekday(year, month, weekday);
+    if k < 4 {
+        return OptionalDay::Day(last - 7 * k);
+    }
+    let first_day = Date {
+        year,
+        month,
+        day: 1,
+    };
+    weeks_before(first_day, k, last)
+}
+
+// [nth-weekday], [last-weekday]
+pub fn nth_weekday_of_month(year: u32, month: u32, weekday: u32, nth: i32) -> OptionalDay
+    ensures { λ r. ⌜ r ≡ nthWeekdayOfMonth year month weekday nth ⌝ }
 {
     if !gregorian::is_date(year, month, 1) {
         return OptionalDay::None;
@@ -125,8 +153,9 @@ pub fn last_weekday_of_month(year: u32, month: u32, weekday: u32) -> OptionalDay
     if 6 < weekday {
         return OptionalDay::None;
     }
-    let OptionalDay::Day(first_of_next) = first_of_next(year, month) else {
-        return OptionalDay::None;
-    };
-    OptionalDay::Day(last_up_to(weekday, first_of_next - 1))
+    let signed = signed::by_sign(nth);
+    match signed {
+        Signed::NotNegative(n) => nth_from_start(year, month, weekday, n),
+        Signed::Negative(k) => nth_from_end(year, month, weekday, k),
+    }
 }

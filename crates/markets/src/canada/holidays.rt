@@ -3,6 +3,7 @@
 ghost use mathlib.Core.Path.{_≡_};
 ghost use Prim.Native.Nat.{_≤_};
 ghost use lib.Dec.{eqb};
+ghost use lib.IntN.{pos};
 ghost use Rattle.gregorian.specs.Calendar.{monday, lastDay};
 ghost use Rattle.gregorian.specs.Inner.{SameDay};
 ghost use Rattle.utils.specs.Weekday.{nthWeekdayOfMonth};
@@ -66,7 +67,7 @@ fn victoria_day(day: CalendarDay) -> u32
 
 // The 1st Monday of September.
 fn is_labour_day(day: CalendarDay) -> bool
-    ensures { λ r. ⌜ r ≡ isDay (nthWeekdayOfMonth (day .date .year) 9 monday 1) (day .number) ⌝ }
+    ensures { λ r. ⌜ r ≡ isDay (nthWeekdayOfMonth (day .date .year) 9 monday (pos 1)) (day .number) ⌝ }
 {
     let OptionalDay::Day(labour_day) = nth_weekday_for(day, 9, MONDAY, 1) else {
         return false;
@@ -76,7 +77,7 @@ fn is_labour_day(day: CalendarDay) -> bool
 
 // The 2nd Monday of October.
 fn is_thanksgiving(day: CalendarDay) -> bool
-    ensures { λ r. ⌜ r ≡ isDay (nthWeekdayOfMonth (day .date .year) 10 monday 2) (day .number) ⌝ }
+    ensures { λ r. ⌜ r ≡ isDay (nthWeekdayOfMonth (day .date .year) 10 monday (pos 2)) (day .number) ⌝ }
 {
     let OptionalDay::Day(thanksgiving) = nth_weekday_for(day, 10, MONDAY, 2) else {
         return false;

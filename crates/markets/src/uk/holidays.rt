@@ -2,9 +2,10 @@
 // arm computes the holidays that can fall in it alone.
 ghost use mathlib.Core.Path.{_≡_};
 ghost use Prim.Native.Nat.{_≤_};
+ghost use lib.IntN.{pos};
 ghost use Rattle.gregorian.specs.Calendar.{monday, lastDay};
 ghost use Rattle.gregorian.specs.Inner.{SameDay};
-ghost use Rattle.utils.specs.Weekday.{nthWeekdayOfMonth, lastWeekdayOfMonth};
+ghost use Rattle.utils.specs.Weekday.{nthWeekdayOfMonth, minus};
 ghost use Rattle.utils.specs.Easter.{calculateEasterMonday};
 ghost use Rattle.rule_days.specs.Days.{isDay};
 ghost use Rattle.rule_days.specs.Inner.{anyOf};
@@ -19,7 +20,6 @@ use rule_days::is_around_easter;
 use rule_days::is_good_friday;
 use rule_days::is_observed;
 use rule_days::is_within;
-use rule_days::last_weekday_for;
 use rule_days::nth_weekday_for;
 use utils::OptionalDay;
 use utils::easter::calculate_easter_monday;
@@ -56,7 +56,7 @@ fn is_easter_monday(day: CalendarDay) -> bool
 
 // The 1st Monday of May.
 fn is_early_may_bank_holiday(day: CalendarDay) -> bool
-    ensures { λ r. ⌜ r ≡ isDay (nthWeekdayOfMonth (day .date .year) 5 monday 1) (day .number) ⌝ }
+    ensures { λ r. ⌜ r ≡ isDay (nthWeekdayOfMonth (day .date .year) 5 monday (pos 1)) (day .number) ⌝ }
 {
     let OptionalDay::Day(early_may) = nth_weekday_for(day, 5, MONDAY, 1) else {
         return false;
@@ -66,9 +66,9 @@ fn is_early_may_bank_holiday(day: CalendarDay) -> bool
 
 // The last Monday of May.
 fn is_spring_bank_holiday(day: CalendarDay) -> bool
-    ensures { λ r. ⌜ r ≡ isDay (lastWeekdayOfMonth (day .date .year) 5 monday) (day .number) ⌝ }
+    ensures { λ r. ⌜ r ≡ isDay (nthWeekdayOfMonth (day .date .year) 5 monday (minus 1)) (day .number) ⌝ }
 {
-    let OptionalDay::Day(spring) = last_weekday_for(day, 5, MONDAY) else {
+    let OptionalDay::Day(spring) = nth_weekday_for(day, 5, MONDAY, -1) else {
         return false;
     };
     day.number == spring
@@ -76,9 +76,9 @@ fn is_spring_bank_holiday(day: CalendarDay) -> bool
 
 // The last Monday of August.
 fn is_summer_bank_holiday(day: CalendarDay) -> bool
-    ensures { λ r. ⌜ r ≡ isDay (lastWeekdayOfMonth (day .date .year) 8 monday) (day .number) ⌝ }
+    ensures { λ r. ⌜ r ≡ isDay (nthWeekdayOfMonth (day .date .year) 8 monday (minus 1)) (day .number) ⌝ }
 {
-    let OptionalDay::Day(summer) = last_weekday_for(day, 8, MONDAY) else {
+    let OptionalDay::Day(summer) = nth_weekday_for(day, 8, MONDAY, -1) else {
         return false;
     };
     day.number == summer

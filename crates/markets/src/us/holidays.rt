@@ -19,7 +19,6 @@ use rule_days::fixed_day;
 use rule_days::is_good_friday;
 use rule_days::is_observed;
 use rule_days::is_within;
-use rule_days::last_weekday_for;
 use rule_days::nth_weekday_for;
 use utils::OptionalDay;
 use utils::nth_weekday_of_month;
@@ -69,7 +68,7 @@ fn is_presidents_day(day: CalendarDay) -> bool
 fn is_memorial_day(day: CalendarDay) -> bool
     ensures { λ r. ⌜ r ≡ isDay (memorialDay (day .date .year)) (day .number) ⌝ }
 {
-    let OptionalDay::Day(memorial_day) = last_weekday_for(day, 5, MONDAY) else {
+    let OptionalDay::Day(memorial_day) = nth_weekday_for(day, 5, MONDAY, -1) else {
         return false;
     };
     day.number == memorial_day

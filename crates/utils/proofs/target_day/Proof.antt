@@ -23,7 +23,7 @@ returns : tie.Need-returns
 unfolding targetDay
 returns c =
     let s = c .before in
-    let weeks = 7 * (s .before .args .nth - 1) in (
+    let weeks = 7 * (s .before .args .n - 1) in (
       ap (λ (i : ℕ). i + weeks) (c .day-number .ensures ∙ s .first-weekday .ensures .0),
       omega (arith, c .day-number .ensures, number-range _ _ _ (is-date s)),
     )

@@ -3,6 +3,8 @@ use Prim.Native.Nat.{_+_}
 use mathlib.Core.Path.{_≡_, ap, sym, _∙_, subst}
 use native.Mathlib.Omega.{arith}
 use borrow.Author.Needs.{needs}
+use lib.IntN.{pos}
+use Rattle.gregorian.specs.Calendar.{thursday}
 use Rattle.utils.specs.declared.OptionalDay.{OptionalDay}
 use Rattle.utils.specs.declared.OptionalDay.the-variants.{Day}
 use Rattle.utils.specs.Weekday.{mapDay}
@@ -23,7 +25,7 @@ returns c =
 
 add-result : tie.Need-add-result
 add-result c =
-    omega (arith, subst InYears (sym (thanksgiving c)) (nth-in-years _ _ _ _))
+    omega (arith, subst InYears (sym (thanksgiving c)) (nth-in-years _ 11 thursday (pos 4)))
 
 returns-2 : tie.Need-returns-2
 returns-2 c = ap (λ (o : OptionalDay). isDay (mapDay (λ n. n + 1) o) (c .before .before .before .before .args .n)) (thanksgiving c)

@@ -6,10 +6,10 @@ use Rattle.markets.proofs.uk.holidays.is_spring_bank_holiday.Statement.
 use Rattle.markets.proofs.uk.holidays.is_spring_bank_holiday.Tie as tie
 
 returns : tie.Need-returns
-returns c = none-is _ _ (sym (c .enum-told .given .1)) ∙ c .before .before .last-weekday-for .ensures
+returns c = none-is _ _ (sym (c .enum-told .given .1)) ∙ c .before .before .nth-weekday-for .ensures
 
 returns-2 : tie.Need-returns-2
-returns-2 c = day-is _ _ _ (sym (c .before .before .spring .given .1)) ∙ c .before .before .before .before .last-weekday-for .ensures
+returns-2 c = day-is _ _ _ (sym (c .before .before .spring .given .1)) ∙ c .before .before .before .before .nth-weekday-for .ensures
 
 pub is-spring-bank-holiday-spec : {M : Type 1} → statement M
 is-spring-bank-holiday-spec = tie.close (tie.spec (search needs) (search needs) (search needs) returns returns-2)
