@@ -8,18 +8,17 @@ pub mod slices;
 pub mod trading_hours;
 
 ghost use mathlib.Core.Path.{_≡_};
-ghost use mathlib.Core.Bool.{true};
 ghost use Prim.Native.Nat.{_+_, _-_, _≤_};
-ghost use Rattle.gregorian.specs.Calendar.{lastDay, isDate, dateOf};
-ghost use Rattle.utils.specs.Weekday.{mapDay, nthWeekdayOfMonth};
+ghost use Rattle.utils.specs.Weekday.{mapDay};
+ghost use Rattle.utils.specs.Inner.{InYears, dayAt, PlaceInYears};
 ghost use Rattle.utils.specs.Easter.{calculateEaster};
 ghost use Rattle.answers.specs.Answers.{optionalDate, flagOf, boolAnswer};
 use error::BoolResult;
 use gregorian::Date;
 use gregorian::NO_DATE;
 use utils::OptionalDay;
+use utils::Place;
 use utils::easter::easter_days;
-use utils::nth_weekday_of_month;
 
 // tc_optional_date of the header, [host-answers]: found is 1 and date is the answer, or every field is 0.
 #[repr(C)]
@@ -33,31 +32,30 @@ const NO_OPTIONAL_DATE: OptionalDate = OptionalDate {
     date: NO_DATE,
 };
 
-// The date of day n, found without a conversion where it is in the month given.
-fn date_near(year: u32, month: u32, n: u32) -> Date
-    requires { ⌜ (isDate year month 1 ≡ true) × (1 ≤ n) × (n ≤ lastDay) ⌝ }
-    ensures { λ r. ⌜ r ≡ dateOf n ⌝ }
+fn optional_date(day: OptionalDay) -> OptionalDate
+    requires { ⌜ InYears day ⌝ }
+    ensures { λ r. ⌜ r ≡ optionalDate day ⌝ }
 {
-    let first = gregorian::day_number(year, month, 1);
-    if first <= n {
-        let day = n - first + 1;
-        if gregorian::is_date(year, month, day) {
-            return Date { year, month, day };
-        }
+    match day {
+        OptionalDay::Day(n) => OptionalDate {
+            found: 1,
+            date: gregorian::date_of(n),
+        },
+        OptionalDay::None => NO_OPTIONAL_DATE,
     }
-    gregorian::date_of(n)
 }
 
-// The nth weekday of a month, which mostly is in the month itself.
-pub fn nth_weekday_answer(year: u32, month: u32, weekday: u32, nth: i32) -> OptionalDate
-    ensures { λ r. ⌜ r ≡ optionalDate (nthWeekdayOfMonth year month weekday nth) ⌝ }
+// The date at a place, asked about a month: a day of that month is not converted.
+pub fn date_at(year: u32, month: u32, place: Place) -> OptionalDate
+    requires { ⌜ PlaceInYears year month place ⌝ }
+    ensures { λ r. ⌜ r ≡ optionalDate (dayAt year month place) ⌝ }
 {
-    let OptionalDay::Day(n) = nth_weekday_of_month(year, month, weekday, nth) else {
-        return NO_OPTIONAL_DATE;
-    };
-    OptionalDate {
-        found: 1,
-        date: date_near(year, month, n),
+    match place {
+        Place::DayOfMonth(day) => OptionalDate {
+            found: 1,
+            date: Date { year, month, day },
+        },
+        Place::ByNumber(day) => optional_date(day),
     }
 }
 

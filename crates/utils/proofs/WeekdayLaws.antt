@@ -145,6 +145,11 @@ last-is w n h l =
     let e = last-up-to w n h l in
     omega (arith, e)
 
+-- so of the seven days up to day n it is the one on that weekday
+one-of-seven : (w n t : ℕ) → w ≤ 6 → weekdayOf t ≡ w → t ≤ n → n ≤ t + 6 → lastUpTo w n ≡ t
+unfolding weekdayOf
+one-of-seven w n t h e l u = back w (n - t) n h (omega arith) (omega arith) ∙ omega arith
+
 last-none : (w n u : ℕ) → w ≤ 6 → 6 ≤ n → lastUpTo w n < u → u ≤ n → weekdayOf u ≡ w → ⊥
 unfolding weekdayOf
 last-none w n u h l k j e = omega (arith, last-up-to w n h l)
@@ -214,6 +219,22 @@ nth-early y m w n h w6 n1 n4 =
     let t = firstFrom (dayNumber y m 1) w + 7 * (n - 1) in
     simp (h, le-leb w 6 w6, le-leb 1 n n1)
     (in-month y m (t - dayNumber y m 1) t h (omega (arith, f, month-low y m (x .m-low) (x .m-high))) (omega (arith, f)))
+
+-- The nth of them is one of the seven days up to the 7 * n of the month,
+pub week-from-start : (y m w n : ℕ) → w ≤ 6 → 1 ≤ n → lastUpTo w (dayNumber y m (7 * n)) ≡ targetDay y m w n
+unfolding dayNumber targetDay
+week-from-start y m w n h l =
+    let s = dayNumber y m 1 in
+    let f = first-near s w in
+    one-of-seven w _ _ h (weekday-weeks (firstFrom s w) (n - 1) ∙ first-is s w h) (omega (arith, f)) (omega (arith, f))
+
+-- and the one k weeks before the last is one of those up to 7 * k days before the end.
+pub week-from-end : (y m w k : ℕ) → w ≤ 6 → 7 * k + 7 ≤ monthLength y m → lastUpTo w (dayNumber y m (monthLength y m - 7 * k)) ≡ lastOf y m w - 7 * k
+unfolding dayNumber
+week-from-end y m w k h l =
+    let i = last-is w (dayNumber y m (monthLength y m)) h (omega arith) in
+    let weeks : lastOf y m w - 7 * k + 7 * k ≡ lastOf y m w = omega (arith, i .1, l) in
+    one-of-seven w _ (lastOf y m w - 7 * k) h (sym (weekday-weeks (lastOf y m w - 7 * k) k) ∙ ap weekdayOf weeks ∙ i .0) (omega (arith, i .1, l)) (omega (arith, i .1, l))
 
 before-found : (m k t s : ℕ) → s ≡ t + 7 * k → 1 ≤ t → ifInMonth m t ≡ Day t → weeksBefore m k s ≡ Day t
 unfolding weeksBefore

@@ -3,11 +3,12 @@ pub mod easter;
 
 ghost use mathlib.Core.Path.{_≡_};
 ghost use mathlib.Core.Bool.{true};
-ghost use Prim.Native.Nat.{_≤_, _<_};
+ghost use Prim.Native.Nat.{_+_, _≤_, _<_};
 ghost use lib.Dec.{eqb};
 ghost use lib.IntN.{pos, negsuc};
-ghost use Rattle.gregorian.specs.Calendar.{dayNumber, monthLength, isDate};
-ghost use Rattle.utils.specs.Weekday.{firstFrom, targetDay, ifInMonth, nextMonth, nextYear, lastUpTo, weeksBefore, mostNth, nthWeekdayOfMonth};
+ghost use Rattle.gregorian.specs.Calendar.{dayNumber, lastDay, isDate};
+ghost use Rattle.utils.specs.Weekday.{ifInMonth, nextMonth, nextYear, lastUpTo, weeksBefore, mostNth, nthWeekdayOfMonth};
+ghost use Rattle.utils.specs.Inner.{dayAt, PlaceInYears};
 use gregorian::Date;
 use signed::Signed;
 
@@ -17,25 +18,32 @@ pub enum OptionalDay {
     None,
 }
 
+// Where the nth weekday is: a day of the month that was asked about, or a day by its number, or none.
+pub enum Place {
+    DayOfMonth(u32),
+    ByNumber(OptionalDay),
+}
+
+const NOWHERE: Place = Place::ByNumber(OptionalDay::None);
+
 // How far n goes either way.
 const MOST_NTH: u32 = 255;
 
-// The day of the month, from 1 to 7, that is its first such weekday.
-fn first_weekday(year: u32, month: u32, weekday: u32) -> u32
-    requires { ⌜ (isDate year month 1 ≡ true) × (weekday ≤ 6) ⌝ }
-    ensures { λ r. ⌜ (dayNumber year month r ≡ firstFrom (dayNumber year month 1) weekday) × (1 ≤ r) × (r ≤ 7) ⌝ }
+// The last such weekday up to day n: one of the seven days that end there.
+pub fn last_up_to(weekday: u32, n: u32) -> u32
+    requires { ⌜ (weekday ≤ 6) × (7 ≤ n) × (n ≤ lastDay + 31) ⌝ }
+    ensures { λ r. ⌜ r ≡ lastUpTo weekday n ⌝ }
 {
-    let first_day = gregorian::day_number(year, month, 1);
-    1 + (weekday + 7 - gregorian::weekday(first_day)) % 7
+    n - (n + 13 - weekday) % 7
 }
 
-// n - 1 weeks after the first such weekday of the month.
-fn target_day(year: u32, month: u32, weekday: u32, n: u32) -> u32
-    requires { ⌜ (isDate year month 1 ≡ true) × (weekday ≤ 6) × (1 ≤ n) × (n ≤ mostNth) ⌝ }
-    ensures { λ r. ⌜ (r ≡ targetDay year month weekday n) × (1 ≤ r) ⌝ }
+// Of the seven days that end with a day of the month, the one that is such a weekday, as a day of the month.
+fn weekday_up_to(year: u32, month: u32, weekday: u32, day: u32) -> u32
+    requires { ⌜ (isDate year month day ≡ true) × (weekday ≤ 6) × (7 ≤ day) ⌝ }
+    ensures { λ r. ⌜ (dayNumber year month r ≡ lastUpTo weekday (dayNumber year month day)) × (r ≤ day) × (day ≤ r + 6) ⌝ }
 {
-    let first = first_weekday(year, month, weekday);
-    gregorian::day_number(year, month, first) + 7 * (n - 1)
+    let n = gregorian::day_number(year, month, day);
+    day - (n - last_up_to(weekday, n))
 }
 
 // The year is not compared.
@@ -60,44 +68,28 @@ fn if_in_month(first_day: Date, target: u32) -> OptionalDay
     }
 }
 
-// The first four are always in the month, and need no look at the target's month.
-fn nth_from_start(year: u32, month: u32, weekday: u32, n: u32) -> OptionalDay
+// n - 1 weeks after the first one. The first four are always in the month: the nth is one of the seven days up to 7 * n.
+fn nth_from_start(year: u32, month: u32, weekday: u32, n: u32) -> Place
     requires { ⌜ (isDate year month 1 ≡ true) × (weekday ≤ 6) ⌝ }
-    ensures { λ r. ⌜ r ≡ nthWeekdayOfMonth year month weekday (pos n) ⌝ }
+    ensures { λ r. ⌜ (dayAt year month r ≡ nthWeekdayOfMonth year month weekday (pos n)) × PlaceInYears year month r ⌝ }
 {
     if n < 1 {
-        return OptionalDay::None;
+        return NOWHERE;
     }
     if MOST_NTH < n {
-        return OptionalDay::None;
+        return NOWHERE;
     }
-    let target = target_day(year, month, weekday, n);
     if n < 5 {
-        return OptionalDay::Day(target);
+        return Place::DayOfMonth(weekday_up_to(year, month, weekday, 7 * n));
     }
+    let first = weekday_up_to(year, month, weekday, 7);
     let first_day = Date {
         year,
         month,
         day: 1,
     };
-    if_in_month(first_day, target)
-}
-
-// The last such weekday up to day n: one of the seven days that end there.
-pub fn last_up_to(weekday: u32, n: u32) -> u32
-    requires { ⌜ (weekday ≤ 6) × (7 ≤ n) ⌝ }
-    ensures { λ r. ⌜ r ≡ lastUpTo weekday n ⌝ }
-{
-    n - (gregorian::weekday(n) + 7 - weekday) % 7
-}
-
-// The last such weekday of the month.
-fn last_weekday(year: u32, month: u32, weekday: u32) -> u32
-    requires { ⌜ (isDate year month 1 ≡ true) × (weekday ≤ 6) ⌝ }
-    ensures { λ r. ⌜ r ≡ lastUpTo weekday (dayNumber year month (monthLength year month)) ⌝ }
-{
-    let length = gregorian::days_in_month(year, month);
-    last_up_to(weekday, gregorian::day_number(year, month, length))
+    let target = gregorian::day_number(year, month, first) + 7 * (n - 1);
+    Place::ByNumber(if_in_month(first_day, target))
 }
 
 // Every month but December 9999 has a next one.
@@ -121,41 +113,54 @@ fn weeks_before(first_day: Date, k: u32, day: u32) -> OptionalDay
 }
 
 // k weeks before the last one. The last four are always in the month.
-fn nth_from_end(year: u32, month: u32, weekday: u32, k: u32) -> OptionalDay
+fn nth_from_end(year: u32, month: u32, weekday: u32, k: u32) -> Place
     requires { ⌜ (isDate year month 1 ≡ true) × (weekday ≤ 6) ⌝ }
-    ensures { λ r. ⌜ r ≡ nthWeekdayOfMonth year month weekday (negsuc k) ⌝ }
+    ensures { λ r. ⌜ (dayAt year month r ≡ nthWeekdayOfMonth year month weekday (negsuc k)) × PlaceInYears year month r ⌝ }
 {
     if MOST_NTH <= k {
-        return OptionalDay::None;
+        return NOWHERE;
     }
     if !has_next_month(year, month) {
-        return OptionalDay::None;
+        return NOWHERE;
     }
-    let last = last_weekday(year, month, weekday);
+    let length = gregorian::days_in_month(year, month);
     if k < 4 {
-        return OptionalDay::Day(last - 7 * k);
+        return Place::DayOfMonth(weekday_up_to(year, month, weekday, length - 7 * k));
     }
+    let last = weekday_up_to(year, month, weekday, length);
     let first_day = Date {
         year,
         month,
         day: 1,
     };
-    weeks_before(first_day, k, last)
+    let last_day = gregorian::day_number(year, month, last);
+    Place::ByNumber(weeks_before(first_day, k, last_day))
 }
 
 // [nth-weekday], [last-weekday]
-pub fn nth_weekday_of_month(year: u32, month: u32, weekday: u32, nth: i32) -> OptionalDay
-    ensures { λ r. ⌜ r ≡ nthWeekdayOfMonth year month weekday nth ⌝ }
+pub fn find_nth_weekday(year: u32, month: u32, weekday: u32, nth: i32) -> Place
+    ensures { λ r. ⌜ (dayAt year month r ≡ nthWeekdayOfMonth year month weekday nth) × PlaceInYears year month r ⌝ }
 {
     if !gregorian::is_date(year, month, 1) {
-        return OptionalDay::None;
+        return NOWHERE;
     }
     if 6 < weekday {
-        return OptionalDay::None;
+        return NOWHERE;
     }
     let signed = signed::by_sign(nth);
     match signed {
         Signed::NotNegative(n) => nth_from_start(year, month, weekday, n),
         Signed::Negative(k) => nth_from_end(year, month, weekday, k),
+    }
+}
+
+// The same as a day number, for the rules.
+pub fn nth_weekday_of_month(year: u32, month: u32, weekday: u32, nth: i32) -> OptionalDay
+    ensures { λ r. ⌜ r ≡ nthWeekdayOfMonth year month weekday nth ⌝ }
+{
+    let place = find_nth_weekday(year, month, weekday, nth);
+    match place {
+        Place::DayOfMonth(day) => OptionalDay::Day(gregorian::day_number(year, month, day)),
+        Place::ByNumber(day) => day,
     }
 }

@@ -1,55 +1,33 @@
--- `utils::nth_weekday_of_month` meets its contract: none without a month or a weekday, and else the answer of its sign.
-use mathlib.Core.Path.{_≡_, ap, sym, _∙_}
-use mathlib.Core.Bool.{true}
-use borrow.Author.Tests.{not-true, not-false, lt-leb}
+-- `utils::nth_weekday_of_month` meets its contract: the day at each kind of place.
+use mathlib.Core.Path.{_≡_, ap, sym, _∙_, subst}
 use borrow.Author.Needs.{needs}
-use lib.IntN.{ℤ}
 use mir.Syntax.{w32}
 use mir.ValLaws.{toZ-ofZ}
-use Rattle.gregorian.specs.Calendar.{isDate}
-use Rattle.signed.specs.declared.Signed.{Signed}
-use Rattle.signed.specs.Inner.{integer}
-use Rattle.utils.specs.declared.OptionalDay.{OptionalDay}
+use Rattle.utils.specs.declared.OptionalDay.the-variants.{Day}
+use Rattle.utils.specs.declared.Place.{Place}
 use Rattle.utils.specs.Weekday.{nthWeekdayOfMonth}
-use Rattle.utils.proofs.WeekdayLaws.{not-asked}
+use Rattle.utils.specs.Inner.{dayAt, PlaceInYears}
 use Rattle.utils.proofs.nth_weekday_of_month.Statement.{statement}
 use Rattle.utils.proofs.nth_weekday_of_month.Tie as tie
 
--- past the first test, the month is one
-is-month : (c : tie.Else1) → isDate (c .before .before .args .year) (c .before .before .args .month) 1 ≡ true
-is-month c = sym (c .before .is-date .ensures) ∙ not-false _ (c .if1 .left)
+-- what is known of the place, where it is known
+known : (c : tie.After-find-nth-weekday) (p : Place) → c .find-nth-weekday .result ≡ p
+    → (let a = c .before .args in (dayAt (a .year) (a .month) p ≡ nthWeekdayOfMonth (a .year) (a .month) (a .weekday) (a .nth)) × PlaceInYears (a .year) (a .month) p)
+known c p e =
+    let a = c .before .args in
+    subst (λ p. (dayAt (a .year) (a .month) p ≡ nthWeekdayOfMonth (a .year) (a .month) (a .weekday) (a .nth)) × PlaceInYears (a .year) (a .month) p) e
+    (rw (toZ-ofZ w32 _ (c .before .fits .nth)) at (c .find-nth-weekday .ensures))
+
+day-number-requires : tie.Need-day-number-requires
+day-number-requires c κs = known (c .before .before .before) _ (c .before .place .given .1) .1
 
 returns : tie.Need-returns
-returns c =
-    let a = c .before .before .args in
-    sym (not-asked (a .year) (a .month) (a .weekday) (a .nth) (simp (sym (c .before .is-date .ensures) ∙ not-true _ (c .if1 .taken))))
+returns c = ap Day (c .day-number .ensures) ∙ known (c .before .before .before .before) _ (c .before .before .place .given .1) .0
 
 returns-2 : tie.Need-returns-2
-returns-2 c =
-    let a = c .before .before .before .args in
-    sym (not-asked (a .year) (a .month) (a .weekday) (a .nth) (simp (is-month (c .before), lt-leb _ _ (c .if2 .taken))))
-
--- what is answered of the number taken apart is answered of the number
-of-number : (c : tie.After-by-sign) (s : Signed) (r : OptionalDay) → c .by-sign .result ≡ s
-    → (let a = c .before .before .before .before .args in r ≡ nthWeekdayOfMonth (a .year) (a .month) (a .weekday) (integer s) → r ≡ nthWeekdayOfMonth (a .year) (a .month) (a .weekday) (a .nth))
-of-number c s r p e =
-    let a = c .before .before .before .before in
-    e ∙ ap (nthWeekdayOfMonth (a .args .year) (a .args .month) (a .args .weekday)) (ap integer (sym p) ∙ c .by-sign .ensures ∙ toZ-ofZ w32 _ (a .fits .nth))
-
-nth-from-start-requires : tie.Need-nth-from-start-requires
-nth-from-start-requires c κs = let s = c .before .before .before .before in (is-month (s .before), s .if2 .left)
-
-nth-from-end-requires : tie.Need-nth-from-end-requires
-nth-from-end-requires c κs = let s = c .before .before .before .before in (is-month (s .before), s .if2 .left)
-
-returns-3 : tie.Need-returns-3
-returns-3 c = of-number (c .before .before .before .before) _ _ (c .before .before .signed .given .1) (c .nth-from-start .ensures)
-
-returns-4 : tie.Need-returns-4
-returns-4 c = of-number (c .before .before .before .before) _ _ (c .before .before .signed2 .given .1) (c .nth-from-end .ensures)
+returns-2 c = known (c .before .before .before) _ (c .before .place2 .given .1) .0
 
 pub nth-weekday-of-month-spec : {M : Type 1} → statement M
 nth-weekday-of-month-spec =
     tie.close
-    (tie.spec (search needs) returns returns-2 (search needs) (search needs) nth-from-start-requires (search needs) nth-from-end-requires
-    returns-3 returns-4)
+    (tie.spec (search needs) (search needs) day-number-requires (search needs) returns returns-2)
