@@ -10,13 +10,12 @@ pub mod trading_hours;
 ghost use mathlib.Core.Path.{_≡_};
 ghost use Prim.Native.Nat.{_+_, _-_, _≤_};
 ghost use Rattle.utils.specs.Weekday.{mapDay};
-ghost use Rattle.utils.specs.Inner.{InYears, dayAt, PlaceInYears};
+ghost use Rattle.utils.specs.Inner.{dayAt, PlaceInYears};
 ghost use Rattle.utils.specs.Easter.{calculateEaster};
 ghost use Rattle.answers.specs.Answers.{optionalDate, flagOf, boolAnswer};
 use error::BoolResult;
 use gregorian::Date;
 use gregorian::NO_DATE;
-use utils::OptionalDay;
 use utils::Place;
 use utils::easter::easter_days;
 
@@ -32,19 +31,6 @@ const NO_OPTIONAL_DATE: OptionalDate = OptionalDate {
     date: NO_DATE,
 };
 
-fn optional_date(day: OptionalDay) -> OptionalDate
-    requires { ⌜ InYears day ⌝ }
-    ensures { λ r. ⌜ r ≡ optionalDate day ⌝ }
-{
-    match day {
-        OptionalDay::Day(n) => OptionalDate {
-            found: 1,
-            date: gregorian::date_of(n),
-        },
-        OptionalDay::None => NO_OPTIONAL_DATE,
-    }
-}
-
 // The date at a place, asked about a month: a day of that month is not converted.
 pub fn date_at(year: u32, month: u32, place: Place) -> OptionalDate
     requires { ⌜ PlaceInYears year month place ⌝ }
@@ -55,7 +41,11 @@ pub fn date_at(year: u32, month: u32, place: Place) -> OptionalDate
             found: 1,
             date: Date { year, month, day },
         },
-        Place::ByNumber(day) => optional_date(day),
+        Place::DayNumber(n) => OptionalDate {
+            found: 1,
+            date: gregorian::date_of(n),
+        },
+        Place::None => NO_OPTIONAL_DATE,
     }
 }
 

@@ -185,9 +185,9 @@ last-found y m w h w6 n =
     let before : dayNumber (nextYear y m) (nextMonth m) 1 - 1 ≡ dayNumber y m (monthLength y m) = omega (arith, month-end y m h) in
     simp (h, le-leb w 6 w6, n) (ap (λ (i : ℕ). Day (lastUpTo w i)) before)
 
-pub last-without-next : (y m w : ℕ) → isDate y m 1 ≡ true → w ≤ 6 → isDate (nextYear y m) (nextMonth m) 1 ≡ false → lastWeekdayOfMonth y m w ≡ None
-unfolding lastWeekdayOfMonth firstOfNext
-last-without-next y m w h w6 n = simp (h, le-leb w 6 w6, n)
+pub end-without-next : (y m w k : ℕ) → isDate y m 1 ≡ true → w ≤ 6 → isDate (nextYear y m) (nextMonth m) 1 ≡ false → nthWeekdayOfMonth y m w (negsuc k) ≡ None
+unfolding nthFromEnd lastWeekdayOfMonth firstOfNext
+end-without-next y m w k h w6 n = simp (h, le-leb w 6 w6, n) (never (ltb k mostNth))
 
 pub record HasLast (y m w : ℕ) : Type 0 where
   pub is-month : isDate y m 1 ≡ true

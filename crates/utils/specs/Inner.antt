@@ -15,9 +15,11 @@ InYears None = Unit {0}
 -- the day at a place, asked about month m of year y
 abbrev pub dayAt : ℕ → ℕ → Place → OptionalDay
 dayAt y m (Place.DayOfMonth d) = Day (dayNumber y m d)
-dayAt y m (Place.ByNumber day) = day
+dayAt y m (Place.DayNumber n) = Day n
+dayAt y m Place.None = None
 
 -- none, or a day of years 1 to 9999
 abbrev pub PlaceInYears : ℕ → ℕ → Place → Type 0
 PlaceInYears y m (Place.DayOfMonth d) = isDate y m d ≡ true
-PlaceInYears y m (Place.ByNumber day) = InYears day
+PlaceInYears y m (Place.DayNumber n) = InYears (Day n)
+PlaceInYears y m Place.None = Unit {0}

@@ -3,12 +3,12 @@ pub mod easter;
 
 ghost use mathlib.Core.Path.{_≡_};
 ghost use mathlib.Core.Bool.{true};
-ghost use Prim.Native.Nat.{_+_, _≤_, _<_};
+ghost use Prim.Native.Nat.{ℕ, _+_, _≤_, _<_};
 ghost use lib.Dec.{eqb};
 ghost use lib.IntN.{pos, negsuc};
 ghost use Rattle.gregorian.specs.Calendar.{dayNumber, lastDay, isDate};
 ghost use Rattle.utils.specs.Weekday.{ifInMonth, nextMonth, nextYear, lastUpTo, weeksBefore, mostNth, nthWeekdayOfMonth};
-ghost use Rattle.utils.specs.Inner.{dayAt, PlaceInYears};
+ghost use Rattle.utils.specs.Inner.{InYears, dayAt, PlaceInYears};
 use gregorian::Date;
 use signed::Signed;
 
@@ -18,13 +18,12 @@ pub enum OptionalDay {
     None,
 }
 
-// Where the nth weekday is: a day of the month that was asked about, or a day by its number, or none.
+// Where the nth weekday is: a day of the month that was asked about, a day by its number, or none.
 pub enum Place {
     DayOfMonth(u32),
-    ByNumber(OptionalDay),
+    DayNumber(u32),
+    None,
 }
-
-const NOWHERE: Place = Place::ByNumber(OptionalDay::None);
 
 // How far n goes either way.
 const MOST_NTH: u32 = 255;
@@ -68,19 +67,29 @@ fn if_in_month(first_day: Date, target: u32) -> OptionalDay
     }
 }
 
+fn by_number(day: OptionalDay) -> Place
+    requires { ⌜ InYears day ⌝ }
+    ensures { λ r. ⌜ ((y m : ℕ) → (dayAt y m r ≡ day) × PlaceInYears y m r) ⌝ }
+{
+    match day {
+        OptionalDay::Day(n) => Place::DayNumber(n),
+        OptionalDay::None => Place::None,
+    }
+}
+
 // n - 1 weeks after the first one. The first four are always in the month: the nth is one of the seven days up to 7 * n.
 fn nth_from_start(year: u32, month: u32, weekday: u32, n: u32) -> Place
     requires { ⌜ (isDate year month 1 ≡ true) × (weekday ≤ 6) ⌝ }
     ensures { λ r. ⌜ (dayAt year month r ≡ nthWeekdayOfMonth year month weekday (pos n)) × PlaceInYears year month r ⌝ }
 {
     if n < 1 {
-        return NOWHERE;
-    }
-    if MOST_NTH < n {
-        return NOWHERE;
+        return Place::None;
     }
     if n < 5 {
         return Place::DayOfMonth(weekday_up_to(year, month, weekday, 7 * n));
+    }
+    if MOST_NTH < n {
+        return Place::None;
     }
     let first = weekday_up_to(year, month, weekday, 7);
     let first_day = Date {
@@ -89,7 +98,7 @@ fn nth_from_start(year: u32, month: u32, weekday: u32, n: u32) -> Place
         day: 1,
     };
     let target = gregorian::day_number(year, month, first) + 7 * (n - 1);
-    Place::ByNumber(if_in_month(first_day, target))
+    by_number(if_in_month(first_day, target))
 }
 
 // Every month but December 9999 has a next one.
@@ -117,15 +126,15 @@ fn nth_from_end(year: u32, month: u32, weekday: u32, k: u32) -> Place
     requires { ⌜ (isDate year month 1 ≡ true) × (weekday ≤ 6) ⌝ }
     ensures { λ r. ⌜ (dayAt year month r ≡ nthWeekdayOfMonth year month weekday (negsuc k)) × PlaceInYears year month r ⌝ }
 {
-    if MOST_NTH <= k {
-        return NOWHERE;
-    }
     if !has_next_month(year, month) {
-        return NOWHERE;
+        return Place::None;
     }
     let length = gregorian::days_in_month(year, month);
     if k < 4 {
         return Place::DayOfMonth(weekday_up_to(year, month, weekday, length - 7 * k));
+    }
+    if MOST_NTH <= k {
+        return Place::None;
     }
     let last = weekday_up_to(year, month, weekday, length);
     let first_day = Date {
@@ -134,7 +143,7 @@ fn nth_from_end(year: u32, month: u32, weekday: u32, k: u32) -> Place
         day: 1,
     };
     let last_day = gregorian::day_number(year, month, last);
-    Place::ByNumber(weeks_before(first_day, k, last_day))
+    by_number(weeks_before(first_day, k, last_day))
 }
 
 // [nth-weekday], [last-weekday]
@@ -142,10 +151,10 @@ pub fn find_nth_weekday(year: u32, month: u32, weekday: u32, nth: i32) -> Place
     ensures { λ r. ⌜ (dayAt year month r ≡ nthWeekdayOfMonth year month weekday nth) × PlaceInYears year month r ⌝ }
 {
     if !gregorian::is_date(year, month, 1) {
-        return NOWHERE;
+        return Place::None;
     }
     if 6 < weekday {
-        return NOWHERE;
+        return Place::None;
     }
     let signed = signed::by_sign(nth);
     match signed {
@@ -161,6 +170,7 @@ pub fn nth_weekday_of_month(year: u32, month: u32, weekday: u32, nth: i32) -> Op
     let place = find_nth_weekday(year, month, weekday, nth);
     match place {
         Place::DayOfMonth(day) => OptionalDay::Day(gregorian::day_number(year, month, day)),
-        Place::ByNumber(day) => day,
+        Place::DayNumber(n) => OptionalDay::Day(n),
+        Place::None => OptionalDay::None,
     }
 }

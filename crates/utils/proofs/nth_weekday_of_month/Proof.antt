@@ -27,7 +27,10 @@ returns c = ap Day (c .day-number .ensures) ∙ known (c .before .before .before
 returns-2 : tie.Need-returns-2
 returns-2 c = known (c .before .before .before) _ (c .before .place2 .given .1) .0
 
+returns-3 : tie.Need-returns-3
+returns-3 c = known (c .before .before) _ (c .enum-told .given .1) .0
+
 pub nth-weekday-of-month-spec : {M : Type 1} → statement M
 nth-weekday-of-month-spec =
     tie.close
-    (tie.spec (search needs) (search needs) day-number-requires (search needs) returns returns-2)
+    (tie.spec (search needs) (search needs) day-number-requires (search needs) (search needs) returns returns-2 returns-3)
