@@ -1,6 +1,6 @@
 /* Compares the calls about weekdays, Easter, trading days and holidays with the plain calendar, and with the examples of
  * docs/SCOPE.md; and, by the library alone, the last weekday with n = -1. Prints a line for each call, for that law and for the cases
- * of the nth weekday that were met; fails if any answer differs, if not all were compared, or if a case was not met. */
+ * of the nth weekday that were met; fails if any answer differs, if not all were compared, or if a case was not met often. */
 #include "compare.h"
 #include "plain_calendar.h"
 #include "trading_calendar.h"
@@ -87,8 +87,10 @@ static void all_years(void) {
 }
 
 /* Each comparison of all_counts is one of these cases. Where there are two, n is above 0 in the first and below 0 in the second. */
-enum { ZERO, ABOVE_255, BELOW_255, FROM_THE_END_OF_9999, PAST_9999, BEFORE_YEAR_1, OTHER_MONTH, OTHER_MONTH_BACK };
-enum { FIFTH = OTHER_MONTH_BACK + 1, FIFTH_BACK, NO_FIFTH, NO_FIFTH_BACK, SAME_YEAR, SAME_YEAR_BACK, LATER_YEAR, EARLIER_YEAR };
+enum {
+    ZERO, ABOVE_255, BELOW_255, FROM_THE_END_OF_9999, PAST_9999, BEFORE_YEAR_1, OTHER_MONTH, OTHER_MONTH_BACK,
+    FIFTH, FIFTH_BACK, NO_FIFTH, NO_FIFTH_BACK, SAME_YEAR, SAME_YEAR_BACK, LATER_YEAR, EARLIER_YEAR
+};
 enum { OFTEN = 1000 };
 static test_case cases[] = {
     [ZERO] = {"n = 0", OFTEN, 0},
