@@ -97,6 +97,7 @@ static uint32_t draw_value(char letter, uint32_t *sequence) {
     }
 }
 
+/* One n in four is not of a month alone. */
 void draw_values(input *in, const call *of, int place, uint32_t *sequence) {
     for (; of->letters[place] != '\0'; place++) {
         char letter = of->letters[place];

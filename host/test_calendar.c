@@ -189,7 +189,8 @@ static void example_easters(void) {
     }
 }
 
-/* The examples of [nth-weekday], and its limits: the last two would lead to 2024-01-01 and 2019-01-31. */
+/* The examples of [nth-weekday], and its limits: without these -53 leads to January of the year 0, 261 to 2024-01-01 and -261 to
+ * 2019-01-31. */
 static const struct {
     uint32_t year, month, weekday;
     int32_t n;
@@ -201,7 +202,7 @@ static const struct {
     {2018, DEC, MON, -5, {4, {1, 2018, 12, 3}}},
     {2026, FEB, FRI, -5, {4, {0}}},
     {1, JAN, MON, -5, {4, {1, 1, 1, 1}}},
-    {1, JAN, MON, -6, {4, {0}}},
+    {1, JAN, MON, -53, {4, {0}}},
     {9999, NOV, MON, -1, {4, {1, 9999, 11, 29}}},
     {9999, DEC, MON, -1, {4, {0}}},
     {9999, DEC, MON, -2, {4, {0}}},

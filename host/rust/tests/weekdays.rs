@@ -47,8 +47,8 @@ fn found_in_another_year() {
     assert_eq!(nth(2024, 1, Wed, -214), date(2020, 1, 1));
 }
 
-/// 0; no fifth; beyond 255, where 261 weeks would lead to 2024-01-01 and 2019-01-31; past the first and the last day; from the end of
-/// December 9999; no such year or month.
+/// 0; no fifth; beyond 255, where 261 would lead to 2024-01-01 and -261 to 2019-01-31; January of the years 0 and 10000; from the end
+/// of December 9999; no such year or month.
 #[test]
 fn none() {
     let due = [
@@ -62,8 +62,8 @@ fn none() {
         (2025, 11, Fri, i32::MAX),
         (2025, 11, Fri, i32::MIN),
         (2025, 11, Fri, i32::MIN + 1),
-        (1, 1, Mon, -6),
-        (9999, 12, Mon, 6),
+        (1, 1, Mon, -53),
+        (9999, 1, Fri, 54),
         (9999, 12, Mon, -1),
         (9999, 12, Mon, -2),
         (0, 12, Mon, -1),
