@@ -21,7 +21,7 @@ static tc_session session_at(const input *in, int place) {
     return session;
 }
 
-BOTH(nth_weekday_of_month, of_date, DATE(0), (uint8_t)N(3))
+BOTH(nth_weekday_of_month, of_date, DATE(0), (int32_t)N(3))
 BOTH(last_weekday_of_month, of_date, DATE(0))
 BOTH(calculate_easter, of_date, N(0))
 BOTH(calculate_good_friday, of_date, N(0))
@@ -75,15 +75,16 @@ const call calls[CALLS] = {
     ROW(month_sheet, "MYm", 0, 1, 1),
 };
 
-/* Which numbers of a letter are valid: markets, years that have trading days, years, months, days, weekdays, which of these, times,
- * whether a part of a record is present, quantities, and sets of markets. */
+/* Which numbers of a letter are valid: markets, years that have trading days, years, months, days, weekdays, which of these in a
+ * month and at all, counted from either end, whether a part of a record is present, times, quantities, and sets of markets. */
 static const struct {
     uint32_t least, most;
 } ranges[] = {
-    ['M'] = {0, 4}, ['Y'] = {2020, 2030}, ['y'] = {1, 9999},  ['m'] = {1, 12},         ['d'] = {1, 31}, ['w'] = {0, 6},
-    ['n'] = {1, 5}, ['h'] = {0, 1},       ['t'] = {0, 86399}, ['q'] = {0, UINT32_MAX}, ['S'] = {1, 31},
+    ['M'] = {0, 4},   ['Y'] = {2020, 2030}, ['y'] = {1, 9999}, ['m'] = {1, 12},    ['d'] = {1, 31},         ['w'] = {0, 6},
+    ['n'] = {-6u, 6}, ['N'] = {-255u, 255}, ['h'] = {0, 1},    ['t'] = {0, 86399}, ['q'] = {0, UINT32_MAX}, ['S'] = {1, 31},
 };
 
+/* A signed number is drawn as the unsigned one of its 32 bits, which wraps around. */
 static uint32_t draw_value(char letter, uint32_t *sequence) {
     uint32_t least = ranges[(int)letter].least, most = ranges[(int)letter].most;
     uint32_t choice = draw(sequence) % 32, number = draw(sequence);
@@ -92,12 +93,17 @@ static uint32_t draw_value(char letter, uint32_t *sequence) {
     case 1: return limits[number % LIMITS];
     case 2: return least - 2 + number % 4;
     case 3: return most - 1 + number % 4;
-    default: return least + (uint32_t)(number % ((uint64_t)most - least + 1));
+    default: return least + (uint32_t)(number % ((uint64_t)(most - least) + 1));
     }
 }
 
+/* One n in four is not of a month alone. */
 void draw_values(input *in, const call *of, int place, uint32_t *sequence) {
-    for (; of->letters[place] != '\0'; place++) in->values[place] = draw_value(of->letters[place], sequence);
+    for (; of->letters[place] != '\0'; place++) {
+        char letter = of->letters[place];
+        if (letter == 'n' && draw(sequence) % 4 == 0) letter = 'N';
+        in->values[place] = draw_value(letter, sequence);
+    }
 }
 
 /* The answers of four fields, and no others, begin with found. */

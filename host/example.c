@@ -27,6 +27,7 @@ static void print_moving_days(uint32_t year) {
     print("Good Friday", tc_calculate_good_friday(year));
     print("Easter Sunday", tc_calculate_easter(year));
     print("Easter Monday", tc_calculate_easter_monday(year));
+    print("2nd last Friday of March", tc_nth_weekday_of_month(year, 3, TC_FRIDAY, -2));
     print("last Monday of May", tc_last_weekday_of_month(year, 5, TC_MONDAY));
     print("4th Thursday of November", tc_nth_weekday_of_month(year, 11, TC_THURSDAY, 4));
 }

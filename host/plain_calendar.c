@@ -4,7 +4,8 @@
 #include <stdio.h>
 #include <stdlib.h>
 
-enum { WEEKDAYS = 7 };
+/* The weekdays, and how many of one are counted at most, either way [nth-weekday]. */
+enum { WEEKDAYS = 7, MOST_WEEKDAYS = 255 };
 
 /* A day, and its place among the days of its weekday. */
 typedef struct {
@@ -106,25 +107,39 @@ uint32_t plain_error(uint32_t market, tc_date date) {
 
 int plain_is_outside(tc_date date) { return date.year < 2020 || date.year > 2030; }
 
-tc_optional_date plain_nth_weekday_of_month(uint32_t year, uint32_t month, uint32_t weekday, uint8_t nth) {
-    int r, place;
-    if (!is_month(year, month) || weekday >= WEEKDAYS || nth == 0) return none();
-    r = month_start[year][month];
+/* The row of the month's first such weekday. */
+static int first_row(uint32_t year, uint32_t month, uint32_t weekday) {
+    int r = month_start[year][month];
     while (days[r].weekday != weekday) r++;
-    place = days[r].place + nth - 1;
-    if (place >= weekday_count[weekday]) return none();
+    return r;
+}
+
+/* The row of its last, back from the first day of the next month; -1 in December 9999, which no month follows. */
+static int last_row(uint32_t year, uint32_t month, uint32_t weekday) {
+    int r;
+    if (year == LAST_YEAR && month == DEC) return -1;
+    r = month == DEC ? month_start[year + 1][JAN] : month_start[year][month + 1];
+    do r--;
+    while (days[r].weekday != weekday);
+    return r;
+}
+
+/* By places among the days of the weekday: on from the month's first, or back from its last. */
+tc_optional_date plain_nth_weekday_of_month(uint32_t year, uint32_t month, uint32_t weekday, int32_t nth) {
+    int r, place;
+    if (!is_month(year, month) || weekday >= WEEKDAYS) return none();
+    if (nth == 0 || nth < -MOST_WEEKDAYS || nth > MOST_WEEKDAYS) return none();
+    r = nth > 0 ? first_row(year, month, weekday) : last_row(year, month, weekday);
+    if (r < 0) return none();
+    place = nth > 0 ? days[r].place + nth - 1 : days[r].place + nth + 1;
+    if (place < 0 || place >= weekday_count[weekday]) return none();
     r = of_weekday[weekday][place];
     return days[r].month == month ? found(r) : none();
 }
 
 tc_optional_date plain_last_weekday_of_month(uint32_t year, uint32_t month, uint32_t weekday) {
-    int r;
-    if (!is_month(year, month) || weekday >= WEEKDAYS) return none();
-    if (year == LAST_YEAR && month == DEC) return none();
-    r = month == DEC ? month_start[year + 1][1] : month_start[year][month + 1];
-    do r--;
-    while (days[r].weekday != weekday);
-    return found(r);
+    int r = is_month(year, month) && weekday < WEEKDAYS ? last_row(year, month, weekday) : -1;
+    return r < 0 ? none() : found(r);
 }
 
 /* How all epacts change when a century begins: a day less where its first year is no leap year, and a day more eight times

@@ -9,7 +9,7 @@
 void plain_fill(void);
 
 /* What the calls of the same names in trading_calendar.h have to answer. */
-tc_optional_date plain_nth_weekday_of_month(uint32_t year, uint32_t month, uint32_t weekday, uint8_t nth);
+tc_optional_date plain_nth_weekday_of_month(uint32_t year, uint32_t month, uint32_t weekday, int32_t nth);
 tc_optional_date plain_last_weekday_of_month(uint32_t year, uint32_t month, uint32_t weekday);
 tc_optional_date plain_calculate_easter(uint32_t year);
 tc_optional_date plain_calculate_good_friday(uint32_t year);

@@ -23,8 +23,8 @@ static const struct {
     {TSE, 1, MAY, 4, 0, 0},            {TSE, 1, DEC, 31, 0, 0},
 };
 
-/* A holiday on the nth such weekday of a month, from a year on; the last one for LAST. */
-enum { LAST = 0 };
+/* A holiday on the nth such weekday of a month, from a year on. */
+enum { LAST = -1 };
 static const struct {
     int markets, first_year, month, weekday, nth;
 } moving[] = {
@@ -53,9 +53,7 @@ static void enter_fixed(int year) {
 
 static void enter_moving(int year) {
     for (size_t i = 0; i < LENGTH(moving); i++) {
-        int month = moving[i].month, weekday = moving[i].weekday, nth = moving[i].nth;
-        tc_optional_date answer = nth == LAST ? plain_last_weekday_of_month(year, month, weekday)
-                                              : plain_nth_weekday_of_month(year, month, weekday, (uint8_t)nth);
+        tc_optional_date answer = plain_nth_weekday_of_month(year, moving[i].month, moving[i].weekday, moving[i].nth);
         if (year >= moving[i].first_year) enter(moving[i].markets, plain_row_of(answer.date));
     }
 }

@@ -7,7 +7,7 @@
 #include <string.h>
 
 /* How many comparisons are meant. */
-enum { MEANT = 123 };
+enum { MEANT = 127 };
 static int compared, differ;
 
 static void is(const char *expression, unsigned long value, unsigned long expected) {
@@ -76,6 +76,8 @@ static void codes(void) {
 
 static void moving_days(void) {
     IS_DATE(tc_nth_weekday_of_month(2026, 11, TC_THURSDAY, 4).date, 2026, 11, 26);
+    IS_DATE(tc_nth_weekday_of_month(2026, 11, TC_FRIDAY, -2).date, 2026, 11, 20);
+    IS(tc_nth_weekday_of_month(2026, 11, TC_FRIDAY, -5).found, 0);
     IS_DATE(tc_last_weekday_of_month(2026, 5, TC_MONDAY).date, 2026, 5, 25);
     IS_DATE(tc_calculate_easter(2024).date, 2024, 3, 31);
     IS_DATE(tc_calculate_good_friday(2024).date, 2024, 3, 29);

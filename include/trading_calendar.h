@@ -134,12 +134,12 @@ typedef struct {
     tc_hours hours;
 } tc_hours_result;
 
-/* The first such weekday of the month, and nth - 1 weeks on [nth-weekday]. None if that day's month has another number
- * (its year is not compared), if nth is 0, or if the weekday, the month, the year or the answer is out of range. */
-tc_optional_date tc_nth_weekday_of_month(uint32_t year, uint32_t month, uint32_t weekday, uint8_t nth);
+/* The first such weekday of the month, and nth - 1 weeks on; with nth below 0 the last such weekday, and -nth - 1 weeks back: -2 is
+ * the second from the end [nth-weekday]. None if that day's month has another number (its year is not compared), if nth is 0 or
+ * beyond 255 either way, if nth is below 0 in December 9999, or if the weekday, the month, the year or the answer is out of range. */
+tc_optional_date tc_nth_weekday_of_month(uint32_t year, uint32_t month, uint32_t weekday, int32_t nth);
 
-/* The last such weekday of the month [last-weekday]. None in December 9999, and if the weekday, the month or the year is
- * out of range. */
+/* The last such weekday of the month: the answer for nth = -1, so none in December 9999 [last-weekday]. */
 tc_optional_date tc_last_weekday_of_month(uint32_t year, uint32_t month, uint32_t weekday);
 
 /* Easter Sunday of the year [easter], the Friday two days before it [good-friday], and the Monday after it [easter-monday]. None

@@ -153,7 +153,7 @@ unsafe extern "C" {
         year: u32,
         month: u32,
         weekday: u32,
-        nth: u8,
+        nth: i32,
     ) -> OptionalDate;
     pub safe fn tc_last_weekday_of_month(year: u32, month: u32, weekday: u32) -> OptionalDate;
     pub safe fn tc_calculate_easter(year: u32) -> OptionalDate;

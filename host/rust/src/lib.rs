@@ -25,6 +25,7 @@
 //! | dates of any year | of the years 1 to 9999 `[date]`: `from_ymd_opt` gives none for others |
 //! | times with parts of a second | whole seconds `[time]`: dropping the parts changes no answer where sessions start and end on whole seconds, as those of the markets do |
 //! | `next_trading_day`, `previous_trading_day` give a date | a `Result`, `NoTradingDayFound` at the ends of these years `[next]` `[previous]` |
+//! | `nth_weekday_of_month` takes nth as `u8` | as `i32`, from a `u8` by `.into()`; below 0 it counts from the end of the month, and beyond 255 either way is none `[nth-weekday]` |
 //! | `nth_weekday_of_month` panics or wraps for nth 0, `last_weekday_of_month` answers December for month 0 | none `[nth-weekday]` `[last-weekday]` |
 //! | `trading_days_in_month` outside the years 1 to 9999: `DateOutOfRange` with the 1st of that month | with 1970-01-01, for a negative year too `[month-error-date]` |
 //! | `calculate_easter` and its neighbours answer outside the years 1 to 9999 | `InvalidDateCalculation` `[easter]` |

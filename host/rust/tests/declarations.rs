@@ -73,6 +73,7 @@ fn c_parameter(text: &str) -> (String, String) {
 fn rust_type(c_type: &str) -> String {
     match c_type.trim() {
         "uint32_t" => "u32".to_string(),
+        "int32_t" => "i32".to_string(),
         "uint8_t" => "u8".to_string(),
         "size_t" => "usize".to_string(),
         "uint8_t *" => "*mut u8".to_string(),

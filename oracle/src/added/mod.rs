@@ -3,6 +3,7 @@
 
 pub mod common_days;
 pub mod faults;
+mod from_the_end;
 pub mod hours;
 mod malformed;
 pub mod ranges;
@@ -86,6 +87,7 @@ fn nth_weekday() -> bool {
         & none(call, "a day past 9999-12-31", nth_past_the_last_day())
         & none(call, "a year outside 1 to 9999", years)
         & none(call, "a month outside 1 to 12", months)
+        & from_the_end::run()
 }
 
 /// Inputs at which the original answers a day past 9999-12-31. 254 weeks are less than five years.

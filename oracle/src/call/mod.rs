@@ -61,7 +61,7 @@ impl Call {
 
     pub fn library(self, [a, b, c, d]: Input) -> Answer {
         match self {
-            Call::NthWeekday => optional_date(tc_nth_weekday_of_month(a, b, c, d as u8)),
+            Call::NthWeekday => optional_date(tc_nth_weekday_of_month(a, b, c, d as i32)),
             Call::LastWeekday => optional_date(tc_last_weekday_of_month(a, b, c)),
             Call::Easter => optional_date(tc_calculate_easter(a)),
             Call::GoodFriday => optional_date(tc_calculate_good_friday(a)),
@@ -89,7 +89,7 @@ impl Call {
                 year(a)?,
                 b,
                 weekday(c)?,
-                d as u8,
+                u8::try_from(d).ok()?,
             )),
             Call::LastWeekday => {
                 date_or_none(utils::last_weekday_of_month(year(a)?, b, weekday(c)?))

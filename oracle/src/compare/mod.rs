@@ -73,24 +73,29 @@ fn easters() -> bool {
 }
 
 /// Every month and weekday in order.
-fn months_and_weekdays() -> impl Iterator<Item = (u32, u32, u32)> {
+pub fn months_and_weekdays() -> impl Iterator<Item = (u32, u32, u32)> + Clone {
     YEARS.flat_map(|year| {
         (1..=12).flat_map(move |month| (0..=6).map(move |weekday| (year, month, weekday)))
     })
 }
 
-/// But for December 9999, which has an added answer.
+/// By both calls of the library that have it, but for December 9999, which has an added answer.
 fn last_weekdays() -> bool {
-    let mut tally = Tally::new("last_weekday_of_month");
+    let mut last = Tally::new("last_weekday_of_month");
+    let mut nth = Tally::new("nth_weekday_of_month, n = -1, by last_weekday_of_month");
     for (year, month, weekday) in months_and_weekdays() {
         if (year, month) == (LAST_YEAR, 12) {
             continue;
         }
-        let library = tc_last_weekday_of_month(year, month, weekday);
+        let input = &[year, month, weekday];
         let original = original::last_weekday_of_month(year, month, weekday);
-        tally.compare(&[year, month, weekday], library, original);
+        let library = tc_last_weekday_of_month(year, month, weekday);
+        last.compare(input, library, original);
+        let library = tc_nth_weekday_of_month(year, month, weekday, -1);
+        nth.compare(input, library, original);
     }
-    tally.close((YEARS.count() * 12 - 1) as u64 * 7)
+    let meant = (YEARS.count() * 12 - 1) as u64 * 7;
+    last.close(meant) & nth.close(meant)
 }
 
 /// Every n from 1 to 255, but where the original answers a day past 9999-12-31.
@@ -102,8 +107,8 @@ fn nth_weekdays() -> bool {
         if original.date.year > LAST_YEAR {
             continue;
         }
-        let library = tc_nth_weekday_of_month(year, month, weekday, nth);
-        tally.compare(&[year, month, weekday, u32::from(nth)], library, original);
+        let library = tc_nth_weekday_of_month(year, month, weekday, nth.into());
+        tally.compare(&[year, month, weekday, nth.into()], library, original);
     }
     let left_out = added::nth_past_the_last_day().count();
     tally.close((YEARS.count() * 12 * 7 * 255 - left_out) as u64)

@@ -70,7 +70,7 @@ pub fn of_date(date: NaiveDate) -> Date {
     }
 }
 
-fn of_option(answer: Option<NaiveDate>) -> OptionalDate {
+pub fn of_option(answer: Option<NaiveDate>) -> OptionalDate {
     answer.map_or(OptionalDate::default(), |date| OptionalDate {
         found: 1,
         date: of_date(date),
@@ -121,8 +121,12 @@ pub fn nth_weekday_of_month(year: u32, month: u32, weekday: u32, nth: u8) -> Opt
 }
 
 pub fn last_weekday_of_month(year: u32, month: u32, weekday: u32) -> OptionalDate {
+    of_option(last_weekday(year, month, weekday))
+}
+
+pub fn last_weekday(year: u32, month: u32, weekday: u32) -> Option<NaiveDate> {
     let weekday = WEEKDAYS[weekday as usize];
-    of_option(utils::last_weekday_of_month(year as i32, month, weekday))
+    utils::last_weekday_of_month(year as i32, month, weekday)
 }
 
 pub fn easter(year: u32) -> OptionalDate {
