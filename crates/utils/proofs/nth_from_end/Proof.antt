@@ -58,8 +58,7 @@ returns-2 c =
     let k = c .before .if2 .taken in
     let r = c .weekday-up-to .ensures in
     let up-to = r .0 ∙ ap (λ (n : ℕ). lastUpTo (a .weekday) (dayNumber (a .year) (a .month) (n - 7 * a .k))) (l .0) in
-    let day = up-to ∙ week-from-end (a .year) (a .month) (a .weekday) (a .k) (h .is-weekday) (omega (arith, l, k)) in
-    (
+    let day = up-to ∙ week-from-end (a .year) (a .month) (a .weekday) (a .k) (h .is-weekday) (omega (arith, l, k)) in (
       simp (lt-ltb (a .k) mostNth (omega (arith, k))) (ap Day day ∙ sym (end-early (a .year) (a .month) (a .weekday) (a .k) h (omega (arith, k)))),
       in-month _ _ _ (h .is-month) (omega (arith, r, l, k)) (omega (arith, r, l)),
     )

@@ -35,8 +35,7 @@ returns-2 c =
     let r = c .weekday-up-to .ensures in
     let low : 1 ≤ a .n = omega (arith, s .before .if1 .left) in
     let high : a .n ≤ 4 = omega (arith, s .if2 .taken) in
-    let day = r .0 ∙ week-from-start (a .year) (a .month) (a .weekday) (a .n) (p .pre .1) low in
-    (
+    let day = r .0 ∙ week-from-start (a .year) (a .month) (a .weekday) (a .n) (p .pre .1) low in (
       simp (le-leb (a .n) mostNth (omega arith)) (ap Day day ∙ sym (nth-early (a .year) (a .month) (a .weekday) (a .n) (p .pre .0) (p .pre .1) low high)),
       early-date _ _ _ (p .pre .0) (omega (arith, r .2, low)) (omega (arith, r .1, high)),
     )
