@@ -75,7 +75,7 @@ const call calls[CALLS] = {
     ROW(month_sheet, "MYm", 0, 1, 1),
 };
 
-/* Which numbers of a letter are valid: markets, years that have trading days, years, months, days, weekdays, which of these in a
+/* Which numbers of a letter are mostly drawn: markets, years that have trading days, years, months, days, weekdays, which of these in a
  * month and at all, counted from either end, whether a part of a record is present, times, quantities, and sets of markets. */
 static const struct {
     uint32_t least, most;

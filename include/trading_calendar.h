@@ -139,7 +139,7 @@ typedef struct {
  * beyond 255 either way, if nth is below 0 in December 9999, or if the weekday, the month, the year or the answer is out of range. */
 tc_optional_date tc_nth_weekday_of_month(uint32_t year, uint32_t month, uint32_t weekday, int32_t nth);
 
-/* The last such weekday of the month: the answer for nth = -1, so none in December 9999 [last-weekday]. */
+/* The last such weekday of the month: the answer for nth = -1, so none in December 9999 and for numbers out of range [last-weekday]. */
 tc_optional_date tc_last_weekday_of_month(uint32_t year, uint32_t month, uint32_t weekday);
 
 /* Easter Sunday of the year [easter], the Friday two days before it [good-friday], and the Monday after it [easter-monday]. None

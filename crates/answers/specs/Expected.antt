@@ -15,8 +15,8 @@ use Rattle.answers.specs.declared.optional_dates.OptionalDateAnswer.{Opt
 abbrev pub foundDate : Date → OptionalDate
 foundDate t = record { found = 1; date = t }
 
-abbrev pub nothingFound : OptionalDate
-nothingFound = record { found = 0; date = noDate }
+abbrev pub noDateFound : OptionalDate
+noDateFound = record { found = 0; date = noDate }
 
 abbrev pub isYes : BoolAnswer
 isYes = record { error = 0; value = 1; date = noDate }

@@ -10,13 +10,13 @@ pub mod trading_hours;
 ghost use mathlib.Core.Path.{_≡_};
 ghost use Prim.Native.Nat.{_+_, _-_, _≤_};
 ghost use Rattle.utils.specs.Weekday.{mapDay};
-ghost use Rattle.utils.specs.Inner.{dayAt, PlaceInYears};
+ghost use Rattle.utils.specs.Inner.{dayOfNth, NthInYears};
 ghost use Rattle.utils.specs.Easter.{calculateEaster};
 ghost use Rattle.answers.specs.Answers.{optionalDate, flagOf, boolAnswer};
 use error::BoolResult;
 use gregorian::Date;
 use gregorian::NO_DATE;
-use utils::Place;
+use utils::NthWeekday;
 use utils::easter::easter_days;
 
 // tc_optional_date of the header, [host-answers]: found is 1 and date is the answer, or every field is 0.
@@ -31,21 +31,21 @@ const NO_OPTIONAL_DATE: OptionalDate = OptionalDate {
     date: NO_DATE,
 };
 
-// The date at a place, asked about a month: a day of that month is not converted.
-pub fn date_at(year: u32, month: u32, place: Place) -> OptionalDate
-    requires { ⌜ PlaceInYears year month place ⌝ }
-    ensures { λ r. ⌜ r ≡ optionalDate (dayAt year month place) ⌝ }
+// The date of an nth weekday, asked about a month: a day of that month is not converted.
+pub fn nth_weekday_answer(year: u32, month: u32, answer: NthWeekday) -> OptionalDate
+    requires { ⌜ NthInYears year month answer ⌝ }
+    ensures { λ r. ⌜ r ≡ optionalDate (dayOfNth year month answer) ⌝ }
 {
-    match place {
-        Place::DayOfMonth(day) => OptionalDate {
+    match answer {
+        NthWeekday::InMonth(day) => OptionalDate {
             found: 1,
             date: Date { year, month, day },
         },
-        Place::DayNumber(n) => OptionalDate {
+        NthWeekday::DayNumber(n) => OptionalDate {
             found: 1,
             date: gregorian::date_of(n),
         },
-        Place::None => NO_OPTIONAL_DATE,
+        NthWeekday::None => NO_OPTIONAL_DATE,
     }
 }
 

@@ -2,7 +2,7 @@
 ghost use mathlib.Core.Path.{_≡_};
 ghost use Rattle.signed.specs.Inner.{integer};
 
-// Negative(k) is -(k + 1), so that every number of either kind is one.
+// Negative(k) is -(k + 1), as `negsuc k` is.
 pub enum Signed {
     NotNegative(u32),
     Negative(u32),

@@ -14,8 +14,8 @@ ghost use Rattle.answers.specs.Answers.{optionalDate, boolAnswer};
 use answers::BoolAnswer;
 use answers::OptionalDate;
 use answers::bool_answer;
-use answers::date_at;
 use answers::easter_answer;
+use answers::nth_weekday_answer;
 use utils::easter::EARLIEST_EASTER;
 use utils::easter::EARLIEST_EASTER_MONDAY;
 use utils::easter::EARLIEST_GOOD_FRIDAY;
@@ -32,7 +32,7 @@ pub extern "C" fn tc_nth_weekday_of_month(
 ) -> OptionalDate
     ensures { λ r. ⌜ r ≡ optionalDate (nthWeekdayOfMonth year month weekday nth) ⌝ }
 {
-    date_at(year, month, find_nth_weekday(year, month, weekday, nth))
+    nth_weekday_answer(year, month, find_nth_weekday(year, month, weekday, nth))
 }
 
 // [last-weekday]: nth = -1.
@@ -40,7 +40,7 @@ pub extern "C" fn tc_nth_weekday_of_month(
 pub extern "C" fn tc_last_weekday_of_month(year: u32, month: u32, weekday: u32) -> OptionalDate
     ensures { λ r. ⌜ r ≡ optionalDate (nthWeekdayOfMonth year month weekday (minus 1)) ⌝ }
 {
-    date_at(year, month, find_nth_weekday(year, month, weekday, -1))
+    nth_weekday_answer(year, month, find_nth_weekday(year, month, weekday, -1))
 }
 
 // [easter]: none outside years 1 to 9999.

@@ -16,7 +16,7 @@ use Rattle.gregorian.proofs.Laws.{days-on, is-date, date-is, date-by, month-low
 use Rattle.gregorian.proofs.Weekdays.{weekday-weeks}
 use Rattle.utils.specs.declared.OptionalDay.{OptionalDay}
 use Rattle.utils.specs.declared.OptionalDay.the-variants.{Day, None}
-use Rattle.utils.specs.Weekday.{mapDay, thenDay, ifInMonth, firstFrom, targetDay, nthFromStart, lastUpTo, nextMonth, nextYear, firstOfNext, lastWeekdayOfMonth, weeksBefore, nthFromEnd, mostNth, nthWeekdayOfMonth}
+use Rattle.utils.specs.Weekday.{mapDay, thenDay, ifInMonth, firstFrom, targetDay, nthFromStart, lastUpTo, nextMonth, nextYear, firstOfNext, lastWeekdayOfMonth, weeksBefore, weeksBeforeLast, mostNth, nthWeekdayOfMonth}
 use Rattle.utils.specs.Inner.{InYears}
 
 -- what a test that leads to a day or to None says where there is a day
@@ -186,7 +186,7 @@ last-found y m w h w6 n =
     simp (h, le-leb w 6 w6, n) (ap (λ (i : ℕ). Day (lastUpTo w i)) before)
 
 pub end-without-next : (y m w k : ℕ) → isDate y m 1 ≡ true → w ≤ 6 → isDate (nextYear y m) (nextMonth m) 1 ≡ false → nthWeekdayOfMonth y m w (negsuc k) ≡ None
-unfolding nthFromEnd lastWeekdayOfMonth firstOfNext
+unfolding weeksBeforeLast lastWeekdayOfMonth firstOfNext
 end-without-next y m w k h w6 n = simp (h, le-leb w 6 w6, n) (never (ltb k mostNth))
 
 pub record HasLast (y m w : ℕ) : Type 0 where
@@ -242,8 +242,8 @@ before-found m k t s e l f =
     let q : s - 7 * k ≡ t = omega arith in
     simp (lt-ltb (7 * k) s (omega arith), q) f
 
-pub end-early : (y m w k : ℕ) → HasLast y m w → k ≤ 3 → nthFromEnd y m w k ≡ Day (lastOf y m w - 7 * k)
-unfolding nthFromEnd dayNumber
+pub end-early : (y m w k : ℕ) → HasLast y m w → k ≤ 3 → weeksBeforeLast y m w k ≡ Day (lastOf y m w - 7 * k)
+unfolding weeksBeforeLast dayNumber
 end-early y m w k h k3 =
     let l = last-weekday y m w (h .is-month) (h .is-weekday) in
     let t = lastOf y m w - 7 * k in
@@ -252,8 +252,8 @@ end-early y m w k h k3 =
     (in-month y m (t - dayNumber y m 1) t (h .is-month) (omega (arith, l .from-22nd, l .to-last)) (omega (arith, l .from-22nd))))
 
 -- n = -1 is the last.
-pub nth-last : (y m w : ℕ) → nthFromEnd y m w 0 ≡ lastWeekdayOfMonth y m w
-unfolding nthFromEnd
+pub nth-last : (y m w : ℕ) → weeksBeforeLast y m w 0 ≡ lastWeekdayOfMonth y m w
+unfolding weeksBeforeLast
 nth-last y m w = by (lastWeekdayOfMonth y m w) refl
   where
     by : (r : OptionalDay) → lastWeekdayOfMonth y m w ≡ r → thenDay (weeksBefore m 0) r ≡ r
@@ -276,7 +276,7 @@ InLimits y m (pos n) = (1 ≤ n) × (n ≤ mostNth)
 InLimits y m (negsuc k) = (k < mostNth) × (isDate (nextYear y m) (nextMonth m) 1 ≡ true)
 
 -- What an answer says: that weekday, so many weeks on or back, in a month of that number.
-pub record NthWeekday (y m w : ℕ) (n : ℤ) (t : ℕ) : Type 0 where
+pub record IsNth (y m w : ℕ) (n : ℤ) (t : ℕ) : Type 0 where
   pub is-month : isDate y m 1 ≡ true
   pub is-weekday : w ≤ 6
   pub limits : InLimits y m n
@@ -285,7 +285,7 @@ pub record NthWeekday (y m w : ℕ) (n : ℤ) (t : ℕ) : Type 0 where
   pub low : 1 ≤ t
   pub high : t ≤ lastDay
 
-from-start : (y m w n t : ℕ) → n ≤ mostNth → nthFromStart y m w n ≡ Day t → NthWeekday y m w (pos n) t
+from-start : (y m w n t : ℕ) → n ≤ mostNth → nthFromStart y m w n ≡ Day t → IsNth y m w (pos n) t
 unfolding nthFromStart targetDay
 from-start y m w n t h e =
     let c = when-day (isDate y m 1 && leb w 6 && leb 1 n) _ t e in
@@ -302,11 +302,11 @@ from-start y m w n t h e =
       high = k .1;
     }
 
-from-end : (y m w k t : ℕ) → k < mostNth → nthFromEnd y m w k ≡ Day t → NthWeekday y m w (negsuc k) t
-unfolding nthFromEnd weeksBefore
+from-end : (y m w k t : ℕ) → k < mostNth → weeksBeforeLast y m w k ≡ Day t → IsNth y m w (negsuc k) t
+unfolding weeksBeforeLast weeksBefore
 from-end y m w k t h e = by (lastWeekdayOfMonth y m w) refl e
   where
-    by : (r : OptionalDay) → lastWeekdayOfMonth y m w ≡ r → thenDay (weeksBefore m k) r ≡ Day t → NthWeekday y m w (negsuc k) t
+    by : (r : OptionalDay) → lastWeekdayOfMonth y m w ≡ r → thenDay (weeksBefore m k) r ≡ Day t → IsNth y m w (negsuc k) t
     by (Day s) p q =
         let l = has-last y m w s p in
         let same : lastOf y m w ≡ s = cc (last-found y m w (l .is-month) (l .is-weekday) (l .has-next)) in
@@ -324,7 +324,7 @@ from-end y m w k t h e = by (lastWeekdayOfMonth y m w) refl e
         }
     by None p q = absurd (none-no-day t q)
 
-pub nth-weekday : (y m w : ℕ) (n : ℤ) (t : ℕ) → nthWeekdayOfMonth y m w n ≡ Day t → NthWeekday y m w n t
+pub nth-weekday : (y m w : ℕ) (n : ℤ) (t : ℕ) → nthWeekdayOfMonth y m w n ≡ Day t → IsNth y m w n t
 nth-weekday y m w (pos n) t e =
     let c = when-day (leb n mostNth) _ t e in
     from-start y m w n t (leb-true n mostNth (c .0)) (c .1)
@@ -334,13 +334,13 @@ nth-weekday y m w (negsuc k) t e =
 
 -- There is no answer without a month or a weekday.
 pub not-asked : (y m w : ℕ) (n : ℤ) → (isDate y m 1 && leb w 6) ≡ false → nthWeekdayOfMonth y m w n ≡ None
-unfolding nthFromStart nthFromEnd lastWeekdayOfMonth
+unfolding nthFromStart weeksBeforeLast lastWeekdayOfMonth
 not-asked y m w (pos n) e = simp e (never (leb n mostNth))
 not-asked y m w (negsuc k) e = simp e (never (ltb k mostNth))
 
 -- Wherever the target lies in such a month, it is the answer.
-pub nth-found : (y m w : ℕ) (n : ℤ) (t : ℕ) → NthWeekday y m w n t → nthWeekdayOfMonth y m w n ≡ Day t
-unfolding nthFromStart targetDay nthFromEnd
+pub nth-found : (y m w : ℕ) (n : ℤ) (t : ℕ) → IsNth y m w n t → nthWeekdayOfMonth y m w n ≡ Day t
+unfolding nthFromStart targetDay weeksBeforeLast
 nth-found y m w (pos n) t d =
     simp (le-leb n mostNth (d .limits .1), d .is-month, le-leb w 6 (d .is-weekday), le-leb 1 n (d .limits .0))
     (ap (ifInMonth m) (sym (d .weeks)) ∙ keeps m t (d .high) (d .month))
@@ -348,7 +348,7 @@ nth-found y m w (negsuc k) t d =
     simp (lt-ltb k mostNth (d .limits .0), last-found y m w (d .is-month) (d .is-weekday) (d .limits .1))
     (before-found m k t (lastOf y m w) (sym (d .weeks)) (d .low) (keeps m t (d .high) (d .month)))
 
-pub weekday-is : (y m w : ℕ) (n : ℤ) (t : ℕ) → NthWeekday y m w n t → weekdayOf t ≡ w
+pub weekday-is : (y m w : ℕ) (n : ℤ) (t : ℕ) → IsNth y m w n t → weekdayOf t ≡ w
 weekday-is y m w (pos n) t d =
     ap weekdayOf (d .weeks) ∙ weekday-weeks (firstFrom (dayNumber y m 1) w) (n - 1) ∙ first-is (dayNumber y m 1) w (d .is-weekday)
 weekday-is y m w (negsuc k) t d =

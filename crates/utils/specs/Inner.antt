@@ -5,21 +5,21 @@ use mathlib.Core.Bool.{true}
 use Rattle.gregorian.specs.Calendar.{lastDay, isDate, dayNumber}
 use Rattle.utils.specs.declared.OptionalDay.{OptionalDay}
 use Rattle.utils.specs.declared.OptionalDay.the-variants.{Day, None}
-use Rattle.utils.specs.declared.Place.{Place}
+use Rattle.utils.specs.declared.NthWeekday.{NthWeekday}
 
 -- none, or a day of years 1 to 9999
 abbrev pub InYears : OptionalDay → Type 0
 InYears (Day n) = (1 ≤ n) × (n ≤ lastDay)
 InYears None = Unit {0}
 
--- the day at a place, asked about month m of year y
-abbrev pub dayAt : ℕ → ℕ → Place → OptionalDay
-dayAt y m (Place.DayOfMonth d) = Day (dayNumber y m d)
-dayAt y m (Place.DayNumber n) = Day n
-dayAt y m Place.None = None
+-- the day of an nth weekday, asked about month m of year y
+abbrev pub dayOfNth : ℕ → ℕ → NthWeekday → OptionalDay
+dayOfNth y m (NthWeekday.InMonth d) = Day (dayNumber y m d)
+dayOfNth y m (NthWeekday.DayNumber n) = Day n
+dayOfNth y m NthWeekday.None = None
 
--- none, or a day of years 1 to 9999
-abbrev pub PlaceInYears : ℕ → ℕ → Place → Type 0
-PlaceInYears y m (Place.DayOfMonth d) = isDate y m d ≡ true
-PlaceInYears y m (Place.DayNumber n) = InYears (Day n)
-PlaceInYears y m Place.None = Unit {0}
+-- the same of an nth weekday
+abbrev pub NthInYears : ℕ → ℕ → NthWeekday → Type 0
+NthInYears y m (NthWeekday.InMonth d) = isDate y m d ≡ true
+NthInYears y m (NthWeekday.DayNumber n) = InYears (Day n)
+NthInYears y m NthWeekday.None = Unit {0}

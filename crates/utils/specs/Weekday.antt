@@ -66,8 +66,8 @@ unfoldable pub weeksBefore : ℕ → ℕ → ℕ → OptionalDay
 weeksBefore m k t = cond (ltb (7 * k) t) (ifInMonth m (t - 7 * k)) None
 
 -- k weeks before the last w of the month
-unfoldable pub nthFromEnd : ℕ → ℕ → ℕ → ℕ → OptionalDay
-nthFromEnd y m w k = thenDay (weeksBefore m k) (lastWeekdayOfMonth y m w)
+unfoldable pub weeksBeforeLast : ℕ → ℕ → ℕ → ℕ → OptionalDay
+weeksBeforeLast y m w k = thenDay (weeksBefore m k) (lastWeekdayOfMonth y m w)
 
 -- ---- n signed
 
@@ -79,7 +79,7 @@ mostNth = 255
 -- -(k + 1), so -1 is the last w itself.
 abbrev pub nthWeekdayOfMonth : ℕ → ℕ → ℕ → ℤ → OptionalDay
 nthWeekdayOfMonth y m w (pos n) = cond (leb n mostNth) (nthFromStart y m w n) None
-nthWeekdayOfMonth y m w (negsuc k) = cond (ltb k mostNth) (nthFromEnd y m w k) None
+nthWeekdayOfMonth y m w (negsuc k) = cond (ltb k mostNth) (weeksBeforeLast y m w k) None
 
 -- -n, as a rule writes it
 abbrev pub minus : ℕ → ℤ

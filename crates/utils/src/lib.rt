@@ -8,7 +8,7 @@ ghost use lib.Dec.{eqb};
 ghost use lib.IntN.{pos, negsuc};
 ghost use Rattle.gregorian.specs.Calendar.{dayNumber, lastDay, isDate};
 ghost use Rattle.utils.specs.Weekday.{ifInMonth, nextMonth, nextYear, lastUpTo, weeksBefore, mostNth, nthWeekdayOfMonth};
-ghost use Rattle.utils.specs.Inner.{InYears, dayAt, PlaceInYears};
+ghost use Rattle.utils.specs.Inner.{InYears, dayOfNth, NthInYears};
 use gregorian::Date;
 use signed::Signed;
 
@@ -18,9 +18,9 @@ pub enum OptionalDay {
     None,
 }
 
-// Where the nth weekday is: a day of the month that was asked about, a day by its number, or none.
-pub enum Place {
-    DayOfMonth(u32),
+// The nth weekday: a day of the month that was asked about, a day by its number, or none.
+pub enum NthWeekday {
+    InMonth(u32),
     DayNumber(u32),
     None,
 }
@@ -67,29 +67,29 @@ fn if_in_month(first_day: Date, target: u32) -> OptionalDay
     }
 }
 
-fn by_number(day: OptionalDay) -> Place
+fn by_number(day: OptionalDay) -> NthWeekday
     requires { ⌜ InYears day ⌝ }
-    ensures { λ r. ⌜ ((y m : ℕ) → (dayAt y m r ≡ day) × PlaceInYears y m r) ⌝ }
+    ensures { λ r. ⌜ ((y m : ℕ) → (dayOfNth y m r ≡ day) × NthInYears y m r) ⌝ }
 {
     match day {
-        OptionalDay::Day(n) => Place::DayNumber(n),
-        OptionalDay::None => Place::None,
+        OptionalDay::Day(n) => NthWeekday::DayNumber(n),
+        OptionalDay::None => NthWeekday::None,
     }
 }
 
-// n - 1 weeks after the first one. The first four are always in the month: the nth is one of the seven days up to 7 * n.
-fn nth_from_start(year: u32, month: u32, weekday: u32, n: u32) -> Place
+// n - 1 weeks after the first one. The first four are always in the month: the nth is among the seven days up to 7 * n.
+fn nth_from_start(year: u32, month: u32, weekday: u32, n: u32) -> NthWeekday
     requires { ⌜ (isDate year month 1 ≡ true) × (weekday ≤ 6) ⌝ }
-    ensures { λ r. ⌜ (dayAt year month r ≡ nthWeekdayOfMonth year month weekday (pos n)) × PlaceInYears year month r ⌝ }
+    ensures { λ r. ⌜ (dayOfNth year month r ≡ nthWeekdayOfMonth year month weekday (pos n)) × NthInYears year month r ⌝ }
 {
     if n < 1 {
-        return Place::None;
+        return NthWeekday::None;
     }
     if n < 5 {
-        return Place::DayOfMonth(weekday_up_to(year, month, weekday, 7 * n));
+        return NthWeekday::InMonth(weekday_up_to(year, month, weekday, 7 * n));
     }
     if MOST_NTH < n {
-        return Place::None;
+        return NthWeekday::None;
     }
     let first = weekday_up_to(year, month, weekday, 7);
     let first_day = Date {
@@ -121,20 +121,20 @@ fn weeks_before(first_day: Date, k: u32, day: u32) -> OptionalDay
     if_in_month(first_day, day - days)
 }
 
-// k weeks before the last one. The last four are always in the month.
-fn nth_from_end(year: u32, month: u32, weekday: u32, k: u32) -> Place
+// k weeks before the last one. The last four are always in the month: that one is among the seven days up to length - 7 * k.
+fn nth_from_end(year: u32, month: u32, weekday: u32, k: u32) -> NthWeekday
     requires { ⌜ (isDate year month 1 ≡ true) × (weekday ≤ 6) ⌝ }
-    ensures { λ r. ⌜ (dayAt year month r ≡ nthWeekdayOfMonth year month weekday (negsuc k)) × PlaceInYears year month r ⌝ }
+    ensures { λ r. ⌜ (dayOfNth year month r ≡ nthWeekdayOfMonth year month weekday (negsuc k)) × NthInYears year month r ⌝ }
 {
     if !has_next_month(year, month) {
-        return Place::None;
+        return NthWeekday::None;
     }
     let length = gregorian::days_in_month(year, month);
     if k < 4 {
-        return Place::DayOfMonth(weekday_up_to(year, month, weekday, length - 7 * k));
+        return NthWeekday::InMonth(weekday_up_to(year, month, weekday, length - 7 * k));
     }
     if MOST_NTH <= k {
-        return Place::None;
+        return NthWeekday::None;
     }
     let last = weekday_up_to(year, month, weekday, length);
     let first_day = Date {
@@ -147,14 +147,14 @@ fn nth_from_end(year: u32, month: u32, weekday: u32, k: u32) -> Place
 }
 
 // [nth-weekday], [last-weekday]
-pub fn find_nth_weekday(year: u32, month: u32, weekday: u32, nth: i32) -> Place
-    ensures { λ r. ⌜ (dayAt year month r ≡ nthWeekdayOfMonth year month weekday nth) × PlaceInYears year month r ⌝ }
+pub fn find_nth_weekday(year: u32, month: u32, weekday: u32, nth: i32) -> NthWeekday
+    ensures { λ r. ⌜ (dayOfNth year month r ≡ nthWeekdayOfMonth year month weekday nth) × NthInYears year month r ⌝ }
 {
     if !gregorian::is_date(year, month, 1) {
-        return Place::None;
+        return NthWeekday::None;
     }
     if 6 < weekday {
-        return Place::None;
+        return NthWeekday::None;
     }
     let signed = signed::by_sign(nth);
     match signed {
@@ -167,10 +167,10 @@ pub fn find_nth_weekday(year: u32, month: u32, weekday: u32, nth: i32) -> Place
 pub fn nth_weekday_of_month(year: u32, month: u32, weekday: u32, nth: i32) -> OptionalDay
     ensures { λ r. ⌜ r ≡ nthWeekdayOfMonth year month weekday nth ⌝ }
 {
-    let place = find_nth_weekday(year, month, weekday, nth);
-    match place {
-        Place::DayOfMonth(day) => OptionalDay::Day(gregorian::day_number(year, month, day)),
-        Place::DayNumber(n) => OptionalDay::Day(n),
-        Place::None => OptionalDay::None,
+    let answer = find_nth_weekday(year, month, weekday, nth);
+    match answer {
+        NthWeekday::InMonth(day) => OptionalDay::Day(gregorian::day_number(year, month, day)),
+        NthWeekday::DayNumber(n) => OptionalDay::Day(n),
+        NthWeekday::None => OptionalDay::None,
     }
 }

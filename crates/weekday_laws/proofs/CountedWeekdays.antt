@@ -17,13 +17,13 @@ use Rattle.gregorian.proofs.Laws.{is-date, date-of-number, number-of-date, date
 use Rattle.utils.specs.declared.OptionalDay.{OptionalDay}
 use Rattle.utils.specs.declared.OptionalDay.the-variants.{Day, None}
 use Rattle.utils.specs.Weekday.{firstFrom, nthWeekdayOfMonth, lastWeekdayOfMonth, nextYear, nextMonth, minus}
-use Rattle.utils.proofs.WeekdayLaws.{first-is, first-near, first-least, lastOf, last-is, LastWeekday, last-weekday, to-28th, next-month, nth-last, Weeks, InLimits, NthWeekday, nth-weekday, nth-found, weekday-is}
+use Rattle.utils.proofs.WeekdayLaws.{first-is, first-near, first-least, lastOf, last-is, LastWeekday, last-weekday, to-28th, next-month, nth-last, Weeks, InLimits, IsNth, nth-weekday, nth-found, weekday-is}
 use Rattle.ranges.specs.Ranges.{tradingDays}
 use Rattle.ranges.proofs.Lists.{first-passes, all-fail, trading-none}
 use Rattle.answers.specs.declared.OptionalDate.{OptionalDate}
 use Rattle.answers.specs.Answers.{optionalDate}
-use Rattle.answers.specs.Expected.{foundDate, nothingFound}
-use Rattle.weekday_laws.specs.CountedWeekdays.{countWeekdays, IsNumber, IsNthWeekday, IsAnswered, WeekdayLaws, AllWeekdayLaws}
+use Rattle.answers.specs.Expected.{foundDate, noDateFound}
+use Rattle.weekday_laws.specs.CountedWeekdays.{countWeekdays, CountsTo, IsNthWeekday, WithinLimits, NthWeekdayLaws, AllWeekdayLaws}
 
 -- ---- counting
 
@@ -71,7 +71,7 @@ first-up-to s w t h e l = elim (decLt t (firstFrom s w)) [
   | no b ↦ omega arith
 ]
 
--- ---- from weeks to numbers, and back
+-- ---- from weeks to counts, and back
 
 last-near : (y m w : ℕ) → isDate y m 1 ≡ true → w ≤ 6 → dayNumber y m (monthLength y m) ≤ lastOf y m w + 6
 last-near y m w h w6 = last-is w (dayNumber y m (monthLength y m)) w6 (omega (arith, to-28th y m h)) .1 .0
@@ -83,11 +83,11 @@ weekday-high t w e = omega arith
 counts-none : (w a b : ℕ) → b < a → countWeekdays w a b ≡ 0
 counts-none w a b l = ap length (trading-none (isOn w) a b l)
 
-number-is : (y m w : ℕ) (n : ℤ) (t : ℕ) → NthWeekday y m w n t → IsNumber y m w n t
-number-is y m w (pos n) t d =
+counts-to : (y m w : ℕ) (n : ℤ) (t : ℕ) → IsNth y m w n t → CountsTo y m w n t
+counts-to y m w (pos n) t d =
     let e = d .weeks in
     weeks-on w (n - 1) (dayNumber y m 1) t (d .is-weekday) (omega (arith, e)) (omega (arith, e)) ∙ omega (arith, d .limits .0)
-number-is y m w (negsuc k) t d =
+counts-to y m w (negsuc k) t d =
     let l = last-weekday y m w (d .is-month) (d .is-weekday) in
     let f = first-here w t (weekday-is y m w (negsuc k) t d) in
     weeks-on w k t (dayNumber y m (monthLength y m)) (d .is-weekday) (omega (arith, f, d .weeks, l .to-last)) (omega (arith, f, d .weeks, last-near y m w (d .is-month) (d .is-weekday)))
@@ -98,7 +98,7 @@ up-to-last y m w t l e h = elim (decLt (lastOf y m w) t) [
   | no b ↦ omega arith
 ]
 
-weeks-are : (y m w : ℕ) (n : ℤ) (t : ℕ) → isDate y m 1 ≡ true → IsAnswered y m n → weekdayOf t ≡ w → IsNumber y m w n t → Weeks y m w n t
+weeks-are : (y m w : ℕ) (n : ℤ) (t : ℕ) → isDate y m 1 ≡ true → WithinLimits y m n → weekdayOf t ≡ w → CountsTo y m w n t → Weeks y m w n t
 weeks-are y m w (pos n) t h a e c = elim (decLt t (dayNumber y m 1)) [
   | yes b ↦ absurd (omega (arith, counts-none w (dayNumber y m 1) t b, c, a .0))
   | no b ↦
@@ -122,9 +122,9 @@ weeks-are y m w (negsuc k) t h a e c = elim (decLt (dayNumber y m (monthLength y
       omega (arith, j, i, c)
 ]
 
--- ---- the n that are answered
+-- ---- the limits of n
 
-to-limits : (y m : ℕ) (n : ℤ) → isDate y m 1 ≡ true → IsAnswered y m n → InLimits y m n
+to-limits : (y m : ℕ) (n : ℤ) → isDate y m 1 ≡ true → WithinLimits y m n → InLimits y m n
 to-limits y m (pos n) h a = a
 to-limits y m (negsuc k) h a =
     let d = is-date y m 1 h in (
@@ -138,7 +138,7 @@ to-limits y m (negsuc k) h a =
       ],
     )
 
-from-limits : (y m : ℕ) (n : ℤ) → isDate y m 1 ≡ true → InLimits y m n → IsAnswered y m n
+from-limits : (y m : ℕ) (n : ℤ) → isDate y m 1 ≡ true → InLimits y m n → WithinLimits y m n
 from-limits y m (pos n) h l = l
 from-limits y m (negsuc k) h l = (omega (arith, l .0), λ p q. none-next p q)
   where
@@ -151,7 +151,7 @@ from-limits y m (negsuc k) h l = (omega (arith, l .0), λ p q. none-next p q)
 
 -- ---- the claim
 
-no-answer : (t : Date) → nothingFound ≡ foundDate t → ⊥
+no-answer : (t : Date) → noDateFound ≡ foundDate t → ⊥
 no-answer t e = let z : _≡_ {A = ℕ} 0 1 = ap (λ (r : OptionalDate). r .found) e in omega arith
 
 pub weekday-laws : AllWeekdayLaws
@@ -161,24 +161,24 @@ weekday-laws y m w n =
       returned = returned (nthWeekdayOfMonth y m w n);
       right = right (nthWeekdayOfMonth y m w n) refl;
       every = every;
-      last = (refl, ap optionalDate (nth-last y m w));
+      last = ap optionalDate (nth-last y m w);
     }
   where
-    returned : (r : OptionalDay) → ((t : Date) × (optionalDate r ≡ foundDate t)) ⊎ (optionalDate r ≡ nothingFound)
+    returned : (r : OptionalDay) → ((t : Date) × (optionalDate r ≡ foundDate t)) ⊎ (optionalDate r ≡ noDateFound)
     returned (Day u) = inl (dateOf u, refl)
     returned None = inr refl
 
-    of-day : (u : ℕ) → NthWeekday y m w n u → IsNthWeekday y m w n (dateOf u)
+    of-day : (u : ℕ) → IsNth y m w n u → IsNthWeekday y m w n (dateOf u)
     of-day u d =
         let e = number-of-date u (d .low) in
         record {
           is-date = date-of-is u (d .low) (d .high);
           weekday = ap weekdayOf e ∙ weekday-is y m w n u d;
           month = d .month;
-          counted = subst (IsNumber y m w n) (sym e) (number-is y m w n u d);
+          counted = subst (CountsTo y m w n) (sym e) (counts-to y m w n u d);
         }
 
-    right : (r : OptionalDay) → nthWeekdayOfMonth y m w n ≡ r → (t : Date) → optionalDate r ≡ foundDate t → (isDate y m 1 ≡ true) × IsAnswered y m n × IsNthWeekday y m w n t
+    right : (r : OptionalDay) → nthWeekdayOfMonth y m w n ≡ r → (t : Date) → optionalDate r ≡ foundDate t → (isDate y m 1 ≡ true) × WithinLimits y m n × IsNthWeekday y m w n t
     right (Day u) e t q =
         let d = nth-weekday y m w n u e in
         let same : dateOf u ≡ t = ap (λ (r : OptionalDate). r .date) q in
@@ -186,7 +186,7 @@ weekday-laws y m w n =
         (d .is-month, from-limits y m n (d .is-month) (d .limits), subst (IsNthWeekday y m w n) same i)
     right None e t q = absurd (no-answer t q)
 
-    every : (t : Date) → isDate y m 1 ≡ true → IsAnswered y m n → IsNthWeekday y m w n t → optionalDate (nthWeekdayOfMonth y m w n) ≡ foundDate t
+    every : (t : Date) → isDate y m 1 ≡ true → WithinLimits y m n → IsNthWeekday y m w n t → optionalDate (nthWeekdayOfMonth y m w n) ≡ foundDate t
     every t h a i =
         let r = number-range _ _ _ (i .is-date) in
         let same = date-of-number t (is-date _ _ _ (i .is-date) .exists) in

@@ -10,7 +10,7 @@ use Rattle.gregorian.specs.Calendar.{dayNumber, monthLength, isDate}
 use Rattle.gregorian.proofs.Laws.{is-date, date-by, month-low}
 use Rattle.utils.specs.declared.OptionalDay.the-variants.{Day}
 use Rattle.utils.specs.Inner.{InYears}
-use Rattle.utils.specs.Weekday.{lastUpTo, weeksBefore, nthFromEnd, mostNth, nthWeekdayOfMonth}
+use Rattle.utils.specs.Weekday.{lastUpTo, weeksBefore, weeksBeforeLast, mostNth, nthWeekdayOfMonth}
 use Rattle.utils.proofs.WeekdayLaws.{HasLast, last-found, end-without-next, end-early, week-from-end, nth-in-years}
 use Rattle.utils.proofs.nth_from_end.Statement.{statement}
 use Rattle.utils.proofs.nth_from_end.Tie as tie
@@ -82,7 +82,7 @@ day-number-requires c κs =
     in-month _ _ _ (s .before .before .before .pre .0) (omega (arith, l, r)) (omega (arith, l, r))
 
 target-is : (c : tie.After-weeks-before) → (let a = c .before .before .before .before .before .before .before .before .args in c .weeks-before .result ≡ nthWeekdayOfMonth (a .year) (a .month) (a .weekday) (negsuc (a .k)))
-unfolding nthFromEnd
+unfolding weeksBeforeLast
 target-is c =
     let s = c .before .before in
     let e = s .before .before .before in
