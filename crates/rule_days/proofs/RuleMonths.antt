@@ -14,7 +14,7 @@ use Rattle.gregorian.specs.declared.Date.{Date}
 use Rattle.gregorian.specs.declared.days.CalendarDay.{CalendarDay}
 use Rattle.gregorian.specs.Inner.{Exists, SameDay}
 use Rattle.gregorian.proofs.Tests.{and-left, and-right, every, every-at}
-use Rattle.gregorian.proofs.Laws.{days-on, is-date, date-by, by-number}
+use Rattle.gregorian.proofs.Laws.{days-on, is-date, by-number}
 use Rattle.gregorian.proofs.DaySteps.{is-date-of, number-is}
 use Rattle.utils.specs.declared.OptionalDay.{OptionalDay}
 use Rattle.utils.specs.declared.OptionalDay.the-variants.{Day, None}

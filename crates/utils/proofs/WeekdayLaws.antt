@@ -1,7 +1,7 @@
 -- The laws of the nth weekday of a month, for any weekday, month and signed n.
 -- Assumes nothing.
 use Prim.Native.Nat.{ℕ, zero, suc, _+_, _-_, _*_, _%_, _≤_, _<_}
-use mathlib.Core.Path.{_≡_, refl, ap, ap₂, sym, _∙_, subst}
+use mathlib.Core.Path.{_≡_, refl, ap, sym, _∙_}
 use mathlib.Core.Bool.{Bool, true, false, cond, _&&_, _||_}
 use lib.Dec.{leb, ltb, eqb, lit≤}
 use lib.IntN.{ℤ, pos, negsuc}
@@ -154,12 +154,6 @@ last-none : (w n u : ℕ) → w ≤ 6 → 6 ≤ n → lastUpTo w n < u → u ≤
 unfolding weekdayOf
 last-none w n u h l k j e = omega (arith, last-up-to w n h l)
 
-pub last-of-month : (y m : ℕ) → isDate y m 1 ≡ true → isDate y m (monthLength y m) ≡ true
-last-of-month y m h =
-    let g = is-date y m 1 h in
-    let x = g .exists in
-    date-by y m (monthLength y m) (x .y-low, g .y-high) (x .m-low, x .m-high) (x .d-high, omega arith)
-
 pub to-28th : (y m : ℕ) → isDate y m 1 ≡ true → dayNumber y m 1 + 27 ≤ dayNumber y m (monthLength y m)
 unfolding dayNumber
 to-28th y m h =
@@ -275,7 +269,7 @@ abbrev pub InLimits : ℕ → ℕ → ℤ → Type 0
 InLimits y m (pos n) = (1 ≤ n) × (n ≤ mostNth)
 InLimits y m (negsuc k) = (k < mostNth) × (isDate (nextYear y m) (nextMonth m) 1 ≡ true)
 
--- What an answer says: that weekday, so many weeks on or back, in a month of that number.
+-- What an answer says: so many weeks on or back, in a month of that number; and so on that weekday (`weekday-is`).
 pub record IsNth (y m w : ℕ) (n : ℤ) (t : ℕ) : Type 0 where
   pub is-month : isDate y m 1 ≡ true
   pub is-weekday : w ≤ 6

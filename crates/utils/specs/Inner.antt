@@ -12,13 +12,13 @@ abbrev pub InYears : OptionalDay → Type 0
 InYears (Day n) = (1 ≤ n) × (n ≤ lastDay)
 InYears None = Unit {0}
 
--- the day of an nth weekday, asked about month m of year y
+-- the day that an answer is, asked about month m of year y
 abbrev pub dayOfNth : ℕ → ℕ → NthWeekday → OptionalDay
 dayOfNth y m (NthWeekday.InMonth d) = Day (dayNumber y m d)
 dayOfNth y m (NthWeekday.DayNumber n) = Day n
 dayOfNth y m NthWeekday.None = None
 
--- the same of an nth weekday
+-- such an answer is none, or a day of years 1 to 9999
 abbrev pub NthInYears : ℕ → ℕ → NthWeekday → Type 0
 NthInYears y m (NthWeekday.InMonth d) = isDate y m d ≡ true
 NthInYears y m (NthWeekday.DayNumber n) = InYears (Day n)

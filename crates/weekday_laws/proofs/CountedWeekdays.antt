@@ -4,26 +4,25 @@ use Prim.Native.Nat.{ℕ, zero, suc, _+_, _-_, _*_, _/_, _≤_, _<_}
 use mathlib.Core.Path.{_≡_, refl, ap, sym, _∙_, subst}
 use mathlib.Core.Bool.{Bool, true, false, _||_}
 use mathlib.Core.Logic.{_⊎_, inl, inr}
-use mathlib.Core.List.{List, _∷_}
+use mathlib.Core.List.{List}
 use lib.Dec.{eqb, ltb}
 use lib.ListN.{length}
 use lib.IntN.{ℤ, pos, negsuc}
 use native.Mathlib.Omega.{arith}
-use native.Mathlib.Decide.{decLt, decLe}
+use native.Mathlib.Decide.{decLt}
 use borrow.Author.Tests.{eq-eqb, ne-eqb, lt-ltb, le-ltb}
 use Rattle.gregorian.specs.declared.Date.{Date}
-use Rattle.gregorian.specs.Calendar.{monthLength, dayNumber, lastYear, lastDay, isDate, isDateOf, number, dateOf, weekdayOf}
+use Rattle.gregorian.specs.Calendar.{monthLength, dayNumber, lastYear, isDate, number, dateOf, weekdayOf}
 use Rattle.gregorian.proofs.Laws.{is-date, date-of-number, number-of-date, date-of-is, number-range}
 use Rattle.utils.specs.declared.OptionalDay.{OptionalDay}
 use Rattle.utils.specs.declared.OptionalDay.the-variants.{Day, None}
-use Rattle.utils.specs.Weekday.{firstFrom, nthWeekdayOfMonth, lastWeekdayOfMonth, nextYear, nextMonth, minus}
+use Rattle.utils.specs.Weekday.{firstFrom, nthWeekdayOfMonth}
 use Rattle.utils.proofs.WeekdayLaws.{first-is, first-near, first-least, lastOf, last-is, LastWeekday, last-weekday, to-28th, next-month, nth-last, Weeks, InLimits, IsNth, nth-weekday, nth-found, weekday-is}
-use Rattle.ranges.specs.Ranges.{tradingDays}
 use Rattle.ranges.proofs.Lists.{first-passes, all-fail, trading-none}
 use Rattle.answers.specs.declared.OptionalDate.{OptionalDate}
 use Rattle.answers.specs.Answers.{optionalDate}
 use Rattle.answers.specs.Expected.{foundDate, noDateFound}
-use Rattle.weekday_laws.specs.CountedWeekdays.{countWeekdays, CountsTo, IsNthWeekday, WithinLimits, NthWeekdayLaws, AllWeekdayLaws}
+use Rattle.weekday_laws.specs.CountedWeekdays.{countWeekdays, CountsTo, IsNthWeekday, WithinLimits, AllWeekdayLaws}
 
 -- ---- counting
 

@@ -1,6 +1,6 @@
 -- `signed::by_sign` meets its contract: below 0 the number is negsuc k, and -1 - n is pos k; any other is pos k itself.
 -- Assumes nothing.
-use Prim.Native.Nat.{ℕ, suc, _-_}
+use Prim.Native.Nat.{ℕ, suc}
 use mathlib.Core.Path.{_≡_, refl, ap, sym, _∙_, subst}
 use mathlib.Core.Bool.{true, false}
 use native.Mathlib.Omega.{arith}

@@ -1,5 +1,5 @@
 -- `utils::by_number` meets its contract: both arms.
-use mathlib.Core.Path.{_≡_, sym, subst}
+use mathlib.Core.Path.{sym, subst}
 use borrow.Author.Needs.{needs}
 use Rattle.utils.specs.Inner.{InYears}
 use Rattle.utils.proofs.by_number.Statement.{statement}

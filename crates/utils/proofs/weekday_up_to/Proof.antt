@@ -1,8 +1,7 @@
 -- `utils::weekday_up_to` meets its contract: so many days before the day.
 use Prim.Native.Nat.{ℕ, _+_, _-_, _≤_}
-use mathlib.Core.Path.{_≡_, ap, sym, _∙_}
+use mathlib.Core.Path.{_≡_, ap, _∙_}
 use native.Mathlib.Omega.{arith}
-use borrow.Author.Needs.{needs}
 use Rattle.gregorian.specs.Calendar.{dayNumber}
 use Rattle.gregorian.proofs.Laws.{number-range}
 use Rattle.utils.specs.Weekday.{lastUpTo}
