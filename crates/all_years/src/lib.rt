@@ -1,5 +1,7 @@
 // Trading days and holidays in any of years 1 to 9999, as a C function. It is no part of the library, whose calls answer for 2020
 // to 2030. The comparison with the Rust, whose markets answer in every year, and the stored holidays of other years ask it.
+#![tactic(auto)]
+
 ghost use Rattle.std.specs.Prelude.{◌≡◌};
 ghost use Rattle.utils.specs.Inner.{InYears};
 ghost use Rattle.all_years.specs.AllYears.{known_day, day_answer};
@@ -9,7 +11,7 @@ use utils::OptionalDay;
 
 // Where there is no such market or no such date, every field is false.
 #[repr(C)]
-#[derive(Drop)]
+#[derive(Clone, Copy)]
 pub struct DayAnswer {
     pub known: bool,
     pub holiday: bool,

@@ -8,7 +8,7 @@ use gregorian::{Date, NO_DATE};
 // tc_count_result of the header, [host-answers]: error is 0 and count is the answer; or error is a number of [errors], count the
 // number of entries that error 9 returns, and date what error 1 returns.
 #[repr(C)]
-#[derive(Drop)]
+#[derive(Clone, Copy)]
 pub struct CountAnswer {
     pub error: u32,
     pub count: u32,

@@ -1,5 +1,7 @@
 // The C structs of the answers, and how each result becomes one; the nth weekday and Easter, whose dates are not made from a day
 // number; an order sliced by the struct that the count call returned.
+#![tactic(auto)]
+
 pub mod counts;
 pub mod neighbours;
 pub mod optional_dates;
@@ -20,7 +22,7 @@ use utils::easter::easter_days;
 
 // tc_optional_date of the header, [host-answers]: found is 1 and date is the answer, or every field is 0.
 #[repr(C)]
-#[derive(Drop)]
+#[derive(Clone, Copy)]
 pub struct OptionalDate {
     pub found: u32,
     pub date: Date,
@@ -69,7 +71,7 @@ pub fn easter_answer(year: u32, march_day: u32) -> OptionalDate
 // tc_bool_result of the header, [host-answers]: error is 0 and value is yes or no; or error is a number of [errors], and date
 // is what is returned with it.
 #[repr(C)]
-#[derive(Drop)]
+#[derive(Clone, Copy)]
 pub struct BoolAnswer {
     pub error: u32,
     pub value: u32,

@@ -9,7 +9,7 @@ use range_calls::TradingDayResult;
 // tc_trading_day_result of the header, [host-answers]: error is 0 and the rest is the answer; or error is a number of [errors], and
 // every other field is 0 [reading-nothing] [reading-error-6].
 #[repr(C)]
-#[derive(Drop)]
+#[derive(Clone, Copy)]
 pub struct TradingDayAnswer {
     pub error: u32,
     pub date: Date,

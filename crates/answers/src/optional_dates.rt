@@ -8,7 +8,7 @@ use gregorian::{Date, NO_DATE};
 // tc_optional_date_result of the header, [host-answers]: error is 0, and found is 1 and date is the answer, or both are 0; or error is a
 // number of [errors], and date what error 1 returns.
 #[repr(C)]
-#[derive(Drop)]
+#[derive(Clone, Copy)]
 pub struct OptionalDateAnswer {
     pub error: u32,
     pub found: u32,

@@ -9,7 +9,7 @@ use schedule::{OptionalSession, OptionalTime, Session, TradingHours};
 // tc_hours of the header, [host-answers]: a part is absent if its has_ field is 0, whatever its numbers are. In an answer a has_
 // field is 0 or 1, and the numbers of an absent part are 0.
 #[repr(C)]
-#[derive(Drop)]
+#[derive(Clone, Copy)]
 pub struct Hours {
     pub date: Date,
     pub has_pre_market: u32,

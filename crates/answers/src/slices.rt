@@ -10,7 +10,7 @@ use orders::SliceResult;
 // tc_slice_result of the header, [host-answers]: error is 0 and the next three are the answer; or error is a number of [errors], count
 // the number of entries that error 9 returns, and date what error 1 returns.
 #[repr(C)]
-#[derive(Drop)]
+#[derive(Clone, Copy)]
 pub struct SliceAnswer {
     pub error: u32,
     pub count: u32,

@@ -9,21 +9,21 @@ use schedule::{HoursResult, Session, SessionResult};
 // tc_time_result, tc_session_result and tc_hours_result of the header, [host-answers]: error is 0 and the other field is the
 // answer; or error is a number of [errors], and every other field is 0.
 #[repr(C)]
-#[derive(Drop)]
+#[derive(Clone, Copy)]
 pub struct TimeAnswer {
     pub error: u32,
     pub seconds: u32,
 }
 
 #[repr(C)]
-#[derive(Drop)]
+#[derive(Clone, Copy)]
 pub struct SessionAnswer {
     pub error: u32,
     pub session: Session,
 }
 
 #[repr(C)]
-#[derive(Drop)]
+#[derive(Clone, Copy)]
 pub struct HoursAnswer {
     pub error: u32,
     pub hours: Hours,

@@ -1,4 +1,6 @@
 // Bytes written to the start of a buffer, and one value to every entry.
+#![tactic(auto)]
+
 ghost use Rattle.std.specs.Prelude.{◌≡◌, ◌≤◌, length, replicate};
 ghost use Rattle.buffers.specs.Buffers.{overwrite};
 

@@ -1,5 +1,7 @@
 // The calls of src/calendar.rs of the Rust on a market and a date, on numbers: the code, and year, month and day. Those about ranges
 // of days are in the crate range_calls.
+#![tactic(auto)]
+
 ghost use Rattle.std.specs.Prelude.{◌≡◌};
 ghost use Rattle.calendar.specs.CalendarCalls.{is_trading_day_result, is_holiday_result, trading_hours_result, is_open_result};
 

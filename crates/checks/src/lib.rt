@@ -1,4 +1,6 @@
 // The checks of the numbers that calls are given, each one ladder of tests: the first error of [errors] that applies decides.
+#![tactic(auto)]
+
 ghost use Rattle.std.specs.Prelude.{◌≡◌, ◌<◌, ◌^◌};
 ghost use Rattle.gregorian.specs.Calendar.{is_date_of};
 ghost use Rattle.checks.specs.Checks.{is_time, checked_day, supported_day, is_month, month_error_date, checked_month};
@@ -21,7 +23,7 @@ pub fn is_time(time: u32) -> bool
 }
 
 // A day number, or the error of a check.
-#[derive(Drop)]
+#[derive(Clone, Copy)]
 pub enum DayResult {
     Ok(u32),
     Err(CalendarError),
@@ -87,7 +89,7 @@ fn month_error_date(year: u32, month: u32) -> Date
 }
 
 // Past a check, or its error.
-#[derive(Drop)]
+#[derive(Clone, Copy)]
 pub enum Check {
     Ok,
     Err(CalendarError),

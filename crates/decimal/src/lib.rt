@@ -1,4 +1,6 @@
 // Numbers in decimal, as ASCII bytes.
+#![tactic(auto)]
+
 ghost use Rattle.std.specs.Prelude.{◌≡◌, ◌≤◌, length};
 ghost use Rattle.buffers.specs.Buffers.{overwrite};
 ghost use Rattle.decimal.specs.Decimal.{decimal, leading_digits, value_of};

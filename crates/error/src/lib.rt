@@ -1,4 +1,6 @@
 // The errors of the calls, as src/error.rs of the Rust.
+#![tactic(auto)]
+
 ghost use Rattle.std.specs.Prelude.{◌≡◌};
 ghost use Rattle.error.specs.Errors.{only_number, error_fields};
 
@@ -7,7 +9,7 @@ use gregorian::{Date, NO_DATE};
 // In the order of [errors]. The first five are added, as the Rust has no month sheet and no sets of markets, and its types no such
 // market, date or time; so are NoTradingDayInRange, as it slices no orders, and BufferTooSmall, which holds the number of entries that
 // the answer takes.
-#[derive(Drop)]
+#[derive(Clone, Copy)]
 pub enum CalendarError {
     MalformedText,
     UnknownMarket,
@@ -24,25 +26,25 @@ pub enum CalendarError {
 }
 
 // In the place of the Rust's Result<T>, for each kind of answer that needs no other crate.
-#[derive(Drop)]
+#[derive(Clone, Copy)]
 pub enum BoolResult {
     Ok(bool),
     Err(CalendarError),
 }
 
-#[derive(Drop)]
+#[derive(Clone, Copy)]
 pub enum TimeResult {
     Ok(u32),
     Err(CalendarError),
 }
 
-#[derive(Drop)]
+#[derive(Clone, Copy)]
 pub enum CountResult {
     Ok(u32),
     Err(CalendarError),
 }
 
-#[derive(Drop)]
+#[derive(Clone, Copy)]
 pub enum OptionalDateResult {
     Found(Date),
     None,
@@ -51,7 +53,7 @@ pub enum OptionalDateResult {
 
 // [errors]: the number of an error, the number of entries returned with error 9, and the date returned with error 1; 0 and no date
 // where nothing is returned [reading-nothing].
-#[derive(Drop)]
+#[derive(Clone, Copy)]
 pub struct ErrorFields {
     pub number: u32,
     pub count: u32,

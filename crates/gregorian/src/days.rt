@@ -5,7 +5,7 @@ ghost use Rattle.gregorian.specs.Inner.{SameDay};
 
 use crate::{Date, day_number, days_in_month};
 
-#[derive(Drop)]
+#[derive(Clone, Copy)]
 pub struct CalendarDay {
     pub number: u32,
     pub date: Date,

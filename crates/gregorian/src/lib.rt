@@ -1,5 +1,7 @@
 // The Gregorian calendar: leap years, month lengths, dates, day numbers and weekdays, in closed
 // arithmetic. A date inside the library is its day number, a u32: 0001-01-01 is 1. Searches carry both, as `days` has them.
+#![tactic(auto)]
+
 pub mod days;
 
 ghost use Rattle.std.specs.Prelude.{◌≡◌, true, ◌≤◌};
@@ -27,7 +29,7 @@ pub const SATURDAY: u32 = 5;
 pub const SUNDAY: u32 = 6;
 
 #[repr(C)]
-#[derive(Drop)]
+#[derive(Clone, Copy)]
 pub struct Date {
     pub year: u32,
     pub month: u32,

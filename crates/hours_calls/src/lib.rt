@@ -1,4 +1,6 @@
 // The calls of src/schedule.rs of the Rust, with the checks of the numbers that a session or an hours record holds.
+#![tactic(auto)]
+
 ghost use Rattle.std.specs.Prelude.{◌≡◌};
 ghost use Rattle.hours_calls.specs.HoursCalls.{session_in_range, optional_session_in_range, optional_time_in_range, hours_in_range, checked_hours};
 ghost use Rattle.hours_calls.specs.HoursCalls.{session_new_result, session_contains_result, trading_hours_new_result, with_early_close_result};

@@ -1,2 +1,4 @@
 // TSE, as src/markets/japan of the Rust.
+#![tactic(auto)]
+
 pub mod holidays;

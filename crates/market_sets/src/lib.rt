@@ -1,4 +1,6 @@
 // Sets of markets, and the days on which all markets of a set trade.
+#![tactic(auto)]
+
 ghost use Rattle.std.specs.Prelude.{◌≡◌, ◌≤◌, ◌<◌};
 ghost use Rattle.gregorian.specs.Calendar.{last_day};
 ghost use Rattle.gregorian.specs.Inner.{SameDay};

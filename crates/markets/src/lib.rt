@@ -1,4 +1,6 @@
 // Which days trade, as src/markets of the Rust has it; the holidays of TSE are those of the crate `japan`.
+#![tactic(auto)]
+
 pub mod canada;
 pub mod uk;
 pub mod us;

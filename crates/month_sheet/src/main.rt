@@ -1,4 +1,6 @@
 // Prints the month sheet that standard input asks for, or the number of the error [sheet-program].
+#![tactic(auto)]
+
 mod input;
 mod output;
 

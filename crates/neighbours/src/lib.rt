@@ -1,4 +1,6 @@
 // The neighbouring trading days, as the methods of `MarketImpl` in src/markets/mod.rs of the Rust find them.
+#![tactic(auto)]
+
 ghost use Rattle.std.specs.Prelude.{◌≡◌, ◌≤◌};
 ghost use Rattle.gregorian.specs.Calendar.{last_day};
 ghost use Rattle.gregorian.specs.Inner.{SameDay};
@@ -12,7 +14,7 @@ use markets::is_trading_day;
 use markets::years::{first_day_of, last_day_of};
 
 // The day that a search found, or none.
-#[derive(Drop)]
+#[derive(Clone, Copy)]
 pub enum Neighbour {
     Found(CalendarDay),
     None,

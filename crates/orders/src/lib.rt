@@ -1,4 +1,6 @@
 // An order sliced over the trading days of a date range, by their number [slice-order].
+#![tactic(auto)]
+
 ghost use Rattle.std.specs.Prelude.{◌≡◌, ◌+◌, ◌≤◌, ◌<◌, ◌^◌, length};
 ghost use Rattle.buffers.specs.Buffers.{overwrite};
 ghost use Rattle.orders.specs.Slices.{slices_of, slice_days, slice_result, slice_buffer};
@@ -7,7 +9,7 @@ use checks::checked_room;
 use error::{CalendarError, CountResult};
 
 // How many days the order is sliced over, the shares of each, and how many shares are left, of which the first days carry one each.
-#[derive(Drop)]
+#[derive(Clone, Copy)]
 pub enum SliceResult {
     Ok {
         count: u32,

@@ -1,4 +1,6 @@
 // The calls of src/calendar.rs of the Rust about ranges of days, on numbers: here those about the neighbouring trading days.
+#![tactic(auto)]
+
 pub mod counts;
 
 ghost use Rattle.std.specs.Prelude.{◌≡◌};
@@ -14,14 +16,14 @@ use neighbours::Neighbour;
 
 // The answer of next and previous: its distance in days from the date given [distance], and whether either date is outside 2020
 // to 2030 [outside].
-#[derive(Drop)]
+#[derive(Clone, Copy)]
 pub struct TradingDay {
     pub date: Date,
     pub distance: u32,
     pub outside: bool,
 }
 
-#[derive(Drop)]
+#[derive(Clone, Copy)]
 pub enum TradingDayResult {
     Ok(TradingDay),
     Err(CalendarError),

@@ -1,4 +1,6 @@
 // Compares stored answers with those of the library, and prints how many rows it compared and how many differ.
+#![tactic(auto)]
+
 mod calls;
 mod hours;
 mod lists;

@@ -4,7 +4,7 @@
 pub const CAPACITY: usize = 64;
 
 // The first length bytes, and zeros after them.
-#[derive(Drop)]
+#[derive(Clone, Copy)]
 pub struct Name {
     pub length: usize,
     pub bytes: [u8; CAPACITY],

@@ -8,14 +8,14 @@ use gregorian::Date;
 pub const CAPACITY: usize = 128;
 
 // A list of numbers: the first count values, and zeros after them.
-#[derive(Drop)]
+#[derive(Clone, Copy)]
 pub struct Numbers {
     pub count: usize,
     pub values: [u32; CAPACITY],
 }
 
 // What a number is with one decimal digit more at its end.
-#[derive(Drop)]
+#[derive(Clone, Copy)]
 pub enum Appended {
     Value(u32),
     TooLarge,

@@ -4,7 +4,7 @@ use crate::tally::Tally;
 use crate::{calls, numbers, report};
 
 // A file as far as it was read: the line that is being read, and the counts of those before it.
-#[derive(Drop)]
+#[derive(Clone, Copy)]
 pub struct Reader {
     // Whether there may be more to read, and whether a read failed.
     is_reading: bool,

@@ -33,7 +33,7 @@ const BACKSLASH: u8 = 3;
 const QUOTE: u8 = 4;
 
 // A line as far as it was read.
-#[derive(Drop)]
+#[derive(Clone, Copy)]
 pub struct Row {
     part: u8,
     name: Name,

@@ -8,7 +8,7 @@ use trading_calendar::sheets::tc_month_sheet;
 const UNTOUCHED: u8 = b'.';
 
 // Numbers as bytes, if all of them are.
-#[derive(Drop)]
+#[derive(Clone, Copy)]
 struct Bytes {
     are_bytes: bool,
     bytes: [u8; CAPACITY],

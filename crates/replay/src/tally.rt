@@ -1,7 +1,7 @@
 // How many rows of a file were compared and how many differ, by kind of call.
 use crate::calls::KINDS;
 
-#[derive(Drop)]
+#[derive(Clone, Copy)]
 pub struct Tally {
     // How many lines were read: the number of the last of them.
     pub line: u64,

@@ -1,16 +1,18 @@
 // The reader of the text that asks for a month sheet [sheet-input].
+#![tactic(auto)]
+
 ghost use Rattle.std.specs.Prelude.{◌≡◌, eqb, get_or};
 ghost use Rattle.request.specs.Request.{starts_with, read_number, read_line, read_month, read_year, read_request};
 
 // A number, and how many bytes were read for it, up to its line feed.
-#[derive(Drop)]
+#[derive(Clone, Copy)]
 enum Line {
     Number { value: u32, size: usize },
     None,
 }
 
 // The month of a market that the text names.
-#[derive(Drop)]
+#[derive(Clone, Copy)]
 pub enum Request {
     Month { market: u32, year: u32, month: u32 },
     Malformed,

@@ -1,5 +1,7 @@
 // Days that the rules of several markets share, each asked about a day of its own month: a day of the month, one that moves to Monday,
 // Good Friday. The month is written out for the reader, and required to be that of the day.
+#![tactic(auto)]
+
 ghost use Rattle.std.specs.Prelude.{◌≡◌, ◌+◌, ◌≤◌, eqb};
 ghost use Rattle.gregorian.specs.Calendar.{last_day, day_number};
 ghost use Rattle.gregorian.specs.Inner.{SameDay};

@@ -1,7 +1,7 @@
 // The seconds of each market, as src/constants.rs of the Rust has them: docs/SCOPE.md [hours]. Each number belongs to the type of
 // its market.
 
-#[derive(Drop)]
+#[derive(Clone, Copy)]
 pub struct USMarket;
 
 impl USMarket {
@@ -16,7 +16,7 @@ impl USMarket {
     pub const EARLY_CLOSE: u32 = 46800;
 }
 
-#[derive(Drop)]
+#[derive(Clone, Copy)]
 pub struct LSEMarket;
 
 impl LSEMarket {
@@ -25,7 +25,7 @@ impl LSEMarket {
     pub const REGULAR_CLOSE: u32 = 59400;
 }
 
-#[derive(Drop)]
+#[derive(Clone, Copy)]
 pub struct TSEMarket;
 
 impl TSEMarket {
@@ -34,7 +34,7 @@ impl TSEMarket {
     pub const REGULAR_CLOSE: u32 = 54000;
 }
 
-#[derive(Drop)]
+#[derive(Clone, Copy)]
 pub struct TSXMarket;
 
 impl TSXMarket {

@@ -1,5 +1,7 @@
 // Sessions and trading hours, as src/schedule.rs of the Rust, and the hours of each market. A time is a second of the day, and any
 // other number is taken too.
+#![tactic(auto)]
+
 pub mod constants;
 pub mod us;
 
@@ -16,14 +18,14 @@ use gregorian::Date;
 use markets::{LSE, NASDAQ, NYSE, TSE, TSX};
 
 #[repr(C)]
-#[derive(Drop)]
+#[derive(Clone, Copy)]
 pub struct Session {
     pub start: u32,
     pub end: u32,
 }
 
 // In the place of the Rust's Result<Session>.
-#[derive(Drop)]
+#[derive(Clone, Copy)]
 pub enum SessionResult {
     Ok(Session),
     Err(CalendarError),
@@ -53,7 +55,7 @@ impl Session {
 }
 
 // In the place of the Rust's Option<Session>.
-#[derive(Drop)]
+#[derive(Clone, Copy)]
 pub enum OptionalSession {
     Some(Session),
     None,
@@ -72,7 +74,7 @@ impl OptionalSession {
 }
 
 // In the place of the Rust's Option<NaiveTime>.
-#[derive(Drop)]
+#[derive(Clone, Copy)]
 pub enum OptionalTime {
     Some(u32),
     None,
@@ -91,7 +93,7 @@ impl OptionalTime {
 }
 
 // [hours-record]
-#[derive(Drop)]
+#[derive(Clone, Copy)]
 pub struct TradingHours {
     pub date: Date,
     pub pre_market: OptionalSession,
@@ -101,7 +103,7 @@ pub struct TradingHours {
 }
 
 // In the place of the Rust's Result<TradingHours>.
-#[derive(Drop)]
+#[derive(Clone, Copy)]
 pub enum HoursResult {
     Ok(TradingHours),
     Err(CalendarError),

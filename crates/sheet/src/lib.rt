@@ -1,4 +1,6 @@
 // The call for a month sheet: a text that names a month of a market, and the sheet of its trading days.
+#![tactic(auto)]
+
 ghost use Rattle.std.specs.Prelude.{◌≡◌, ◌≤◌, length};
 ghost use Rattle.checks.specs.Checks.{checked_room, final_buffer};
 ghost use Rattle.sheet_lines.specs.Sheet.{sheet_text};

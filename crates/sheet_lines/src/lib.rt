@@ -1,4 +1,6 @@
 // The text of the month sheet: how many bytes it has, and its writer.
+#![tactic(auto)]
+
 mod length;
 mod lines;
 

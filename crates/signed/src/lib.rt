@@ -1,9 +1,11 @@
 // Signed numbers, taken apart by their sign: past that a proof stays with numbers from 0 on.
+#![tactic(auto)]
+
 ghost use Rattle.std.specs.Prelude.{◌≡◌};
 ghost use Rattle.signed.specs.Inner.{integer};
 
 // Negative(k) is -(k + 1), as `negsuc k` is.
-#[derive(Drop)]
+#[derive(Clone, Copy)]
 pub enum Signed {
     NotNegative(u32),
     Negative(u32),

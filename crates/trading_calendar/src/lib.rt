@@ -1,4 +1,6 @@
 // The calls that a host in C or Rust makes. Every call takes every number and every text, so none has a `requires`.
+#![tactic(auto)]
+
 pub mod common_days;
 pub mod neighbours;
 pub mod ranges;

@@ -1,4 +1,6 @@
 // The trading days of a range and of a month, as src/calendar.rs of the Rust finds them past its checks.
+#![tactic(auto)]
+
 ghost use Rattle.std.specs.Prelude.{◌≡◌, true, ◌≤◌, length, take};
 ghost use Rattle.gregorian.specs.Calendar.{last_day, is_date};
 ghost use Rattle.gregorian.specs.Inner.{SameDay};

@@ -1,4 +1,6 @@
 // The nth weekday of a month, from its start or from its end, and Easter, as src/utils of the Rust has them.
+#![tactic(auto)]
+
 pub mod easter;
 
 ghost use Rattle.std.specs.Prelude.{◌≡◌, true, ℕ, ◌+◌, ◌≤◌, ◌<◌, eqb, pos, negsuc};
@@ -10,14 +12,14 @@ use gregorian::Date;
 use signed::Signed;
 
 // In the place of the Rust's Option<NaiveDate>: a day number, or none.
-#[derive(Drop)]
+#[derive(Clone, Copy)]
 pub enum OptionalDay {
     Day(u32),
     None,
 }
 
 // The nth weekday: a day of the month that was asked about, a day by its number, or none.
-#[derive(Drop)]
+#[derive(Clone, Copy)]
 pub enum NthWeekday {
     InMonth(u32),
     DayNumber(u32),

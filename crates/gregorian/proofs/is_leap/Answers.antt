@@ -6,8 +6,7 @@ use lib.Dec.{eqb}
 use native.Mathlib.Omega.{arith}
 use Rattle.gregorian.specs.Calendar.{leap}
 use Rattle.gregorian.proofs.Tests.{every, every-at}
-use Rattle.gregorian.proofs.is_leap.Statement.{statement}
-use Rattle.gregorian.proofs.is_leap.Tie as tie
+use Rattle.gregorian.proofs.is_leap.Goals as goal
 
 -- the code's test, and the definition's
 abbrev by-16 : ℕ → Bool
@@ -55,9 +54,6 @@ module _ (y : ℕ) where
       ∙ are-alike (by-16 r) (by-400 r) (ap (λ (i : ℕ). cond (by-16 i) (by-400 i) (not (by-400 i))) (sym back) ∙ every-at alike 400 all_alike (suc r) (omega arith) (omega arith))
       ∙ sym (λ j. cond (eqb (rest-100 j) 0) (eqb (rest-400 j) 0) (eqb (rest-4 j) 0))
 
-returns : tie.Need-returns
+pub returns : goal.returns
 unfolding leap
 returns c = repeats c.args.year
-
-pub is-leap-spec : {M : Type 1} → statement M
-is-leap-spec = tie.close (tie.spec returns)
