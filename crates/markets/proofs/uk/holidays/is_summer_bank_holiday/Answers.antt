@@ -1,0 +1,11 @@
+-- `markets::uk::holidays::is_summer_bank_holiday` meets its contract: the day of the answer, or none.
+use mathlib.Core.Path.{sym, ◌∙◌}
+use borrow.Author.Rules.{rules}
+use Rattle.rule_days.proofs.DayLaws.{day-is, none_is}
+use Rattle.markets.proofs.uk.holidays.is_summer_bank_holiday.Goals as goal
+
+pub returns-in_default : goal.returns-in_default
+returns-in_default c = none_is _ _ (sym c.enum_told-1.given.1) ∙ c.nth_weekday_for.ensures
+
+pub returns : goal.returns
+returns c = day-is _ _ _ (sym c.summer-1.given.1) ∙ c.nth_weekday_for.ensures

@@ -1,0 +1,10 @@
+-- `sheet_lines::length::sheet_length` meets its contract: the sum over the five lines.
+use native.Mathlib.Omega.{arith}
+use borrow.Author.Rules.{rules}
+use Rattle.sheet_lines.proofs.LineLaws.{sheet-lengths}
+use Rattle.sheet_lines.proofs.length.sheet_length.Goals as goal
+
+pub returns : goal.returns
+returns c =
+    let s = c.args in
+    (omega (arith, sheet-lengths s.market s.year s.month s.days.now), omega arith)
