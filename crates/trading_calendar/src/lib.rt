@@ -1,4 +1,4 @@
-// The calls that a host in C or Rust makes. Every call takes every number and every text, so none has a `requires`.
+// The library under the calls that a host makes. Every call takes every number and every text, so none has a `requires`.
 #![tactic(auto)]
 
 pub mod common_days;
