@@ -1,9 +1,6 @@
 -- `gregorian::days_in_month` meets its contract: February by the leap year, the other months by the formula, and 0 for no month.
-use mathlib.Core.Path.{◌≡◌, sym}
-use mathlib.Core.Bool.{Bool, true, false, cond}
-use native.Mathlib.Omega.{arith}
-use borrow.Author.Rules.{rules}
-use Rattle.gregorian.specs.Calendar.{month_length}
+use mathlib.Core.Path.{sym}
+use mathlib.Core.Bool.{true, false}
 use Rattle.gregorian.proofs.Formulas.{february, month-0, other-month, no-month}
 use Rattle.gregorian.proofs.days_in_month.Goals as goal
 

@@ -1,10 +1,6 @@
 -- `gregorian::days_in_months` meets its contract: the formula, less what February lacks from March on, is the sum.
-use Prim.Native.Nat.{◌+◌, ◌-◌, ◌*◌, ◌/◌}
-use mathlib.Core.Path.{◌≡◌}
-use mathlib.Core.Bool.{Bool, true, false, cond}
+use mathlib.Core.Bool.{true, false}
 use native.Mathlib.Omega.{arith}
-use borrow.Author.Rules.{rules}
-use Rattle.gregorian.specs.Calendar.{month_length, total}
 use Rattle.gregorian.proofs.Formulas.{before-march, from-march}
 use Rattle.gregorian.proofs.days_in_months.Goals as goal
 

@@ -5,7 +5,6 @@ use mathlib.Core.Bool.{true, ◌&&◌}
 use lib.Dec.{leb}
 use native.Mathlib.Omega.{arith}
 use borrow.Author.Tests.{lt-leb, le-leb}
-use borrow.Author.Rules.{rules}
 use Rattle.gregorian.specs.Calendar.{month_length, last_year, is_date}
 use Rattle.gregorian.proofs.Laws.{month-low}
 use Rattle.gregorian.proofs.is_date.Goals as goal

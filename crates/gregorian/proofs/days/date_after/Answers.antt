@@ -1,7 +1,6 @@
 -- `gregorian::days::date_after` meets its contract: each case of the day after.
 use mathlib.Core.Path.{sym, ◌∙◌}
 use native.Mathlib.Omega.{arith}
-use borrow.Author.Rules.{rules}
 use Rattle.gregorian.proofs.Laws.{is-date}
 use Rattle.gregorian.proofs.Formulas.{month-high}
 use Rattle.gregorian.proofs.DaySteps.{after-in-month, after-month, after-year}
