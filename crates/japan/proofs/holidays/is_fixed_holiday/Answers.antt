@@ -1,7 +1,6 @@
 -- `japan::holidays::is_fixed_holiday` meets its contract: the day, or its substitute.
 use Prim.Native.Nat.{ℕ}
 use mathlib.Core.Path.{ap, ◌∙◌}
-use borrow.Author.Rules.{rules}
 use Rattle.japan.specs.Inner.{is_with_substitute}
 use Rattle.japan.proofs.holidays.is_fixed_holiday.Goals as goal
 

@@ -1,11 +1,10 @@
 -- `japan::holidays::is_marine_day` meets its contract: the day of the answer, or none.
 use mathlib.Core.Path.{sym, ◌∙◌}
-use borrow.Author.Rules.{rules}
 use Rattle.rule_days.proofs.DayLaws.{day-is, none_is}
 use Rattle.japan.proofs.holidays.is_marine_day.Goals as goal
 
 pub returns-in_default : goal.returns-in_default
-returns-in_default c = none_is _ _ (sym c.enum_told-1.given.1) ∙ c.nth_weekday_for.ensures
+returns-in_default c = none_is _ _ (sym c.in_default.is) ∙ c.nth_weekday_for.ensures
 
 pub returns : goal.returns
-returns c = day-is _ _ _ (sym c.marine_day-1.given.1) ∙ c.nth_weekday_for.ensures
+returns c = day-is _ _ _ (sym c.in-Day.is) ∙ c.nth_weekday_for.ensures

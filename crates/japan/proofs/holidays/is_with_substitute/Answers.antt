@@ -4,7 +4,6 @@ use mathlib.Core.Path.{◌≡◌, ap, sym, ◌∙◌}
 use lib.Dec.{eqb}
 use native.Mathlib.Omega.{arith}
 use borrow.Author.Tests.{eq-eqb, ne_eqb}
-use borrow.Author.Rules.{rules}
 use Rattle.gregorian.specs.Calendar.{sunday, weekday_of}
 use Rattle.gregorian.proofs.Tests.{and-true, and-false}
 use Rattle.rule_days.proofs.DayLaws.{or-false}
