@@ -1,15 +1,6 @@
 -- `utils::find_nth_weekday` meets its contract: none without a month or a weekday, and else the answer of its sign.
-use mathlib.Core.Path.{◌≡◌, ap, sym, ◌∙◌}
-use mathlib.Core.Bool.{true}
-use borrow.Author.Tests.{not-true, not-false, lt-leb}
-use borrow.Author.Rules.{rules}
-use mir.Syntax.{w32}
-use mir.ValLaws.{to_z-of_z}
-use Rattle.gregorian.specs.Calendar.{is_date}
-use Rattle.signed.specs.declared.Signed.{Signed}
-use Rattle.signed.specs.Inner.{integer}
-use Rattle.utils.specs.declared.OptionalDay.{OptionalDay}
-use Rattle.utils.specs.Weekday.{nth_weekday_of_month}
+use mathlib.Core.Path.{sym, ◌∙◌}
+use borrow.Author.Tests.{lt-leb}
 use Rattle.utils.proofs.WeekdayLaws.{not-asked}
 use Rattle.utils.proofs.find_nth_weekday.Goals as goal
 

@@ -1,12 +1,10 @@
 -- `utils::nth_from_start` meets its contract: each return answers by the tests before it.
 use Prim.Native.Nat.{◌+◌, ◌-◌, ◌*◌, ◌≤◌}
 use mathlib.Core.Path.{◌≡◌, ap, sym, ◌∙◌, subst}
-use mathlib.Core.Bool.{true}
 use native.Mathlib.Omega.{arith}
 use borrow.Author.Tests.{lt-leb, le-leb}
-use borrow.Author.Rules.{rules}
 use lib.IntN.{pos}
-use Rattle.gregorian.specs.Calendar.{last_day, is_date}
+use Rattle.gregorian.specs.Calendar.{last_day}
 use Rattle.gregorian.proofs.Laws.{number-range, early-date}
 use Rattle.utils.specs.Weekday.{if_in_month, target_day, nth_from_start, most_nth, nth_weekday_of_month}
 use Rattle.utils.specs.Inner.{InYears}

@@ -4,7 +4,6 @@ use mathlib.Core.Path.{◌≡◌, ap, sym, ◌∙◌}
 use mathlib.Core.Bool.{true}
 use native.Mathlib.Omega.{arith}
 use borrow.Author.Tests.{lt-leb, le-leb}
-use borrow.Author.Rules.{rules}
 use Rattle.gregorian.specs.Calendar.{last_year, month_length, is_date}
 use Rattle.gregorian.proofs.Laws.{date-by, number-range}
 use Rattle.utils.specs.declared.OptionalDay.TheVariants.{Day}

@@ -1,10 +1,8 @@
 -- `utils::easter::calculate_easter_monday` meets its contract: Easter is in years 1 to 9999, so the sum fits.
 use Prim.Native.Nat.{◌+◌}
-use mathlib.Core.Path.{◌≡◌, sym, ◌∙◌}
+use mathlib.Core.Path.{sym}
 use native.Mathlib.Omega.{arith}
-use borrow.Author.Rules.{rules}
-use Rattle.utils.specs.declared.OptionalDay.TheVariants.{Day}
-use Rattle.utils.specs.Easter.{calculate_easter, calculate_easter_monday}
+use Rattle.utils.specs.Easter.{calculate_easter_monday}
 use Rattle.utils.proofs.EasterLaws.{after_none, after-day, easter-day}
 use Rattle.utils.proofs.easter.calculate_easter_monday.Goals as goal
 

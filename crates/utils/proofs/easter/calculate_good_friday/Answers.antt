@@ -1,10 +1,8 @@
 -- `utils::easter::calculate_good_friday` meets its contract: Easter is late enough in its year to go back from.
 use Prim.Native.Nat.{◌-◌}
-use mathlib.Core.Path.{◌≡◌, sym, ◌∙◌}
+use mathlib.Core.Path.{sym}
 use native.Mathlib.Omega.{arith}
-use borrow.Author.Rules.{rules}
-use Rattle.utils.specs.declared.OptionalDay.TheVariants.{Day}
-use Rattle.utils.specs.Easter.{calculate_easter, calculate_good_friday}
+use Rattle.utils.specs.Easter.{calculate_good_friday}
 use Rattle.utils.proofs.EasterLaws.{after_none, after-day, easter-day}
 use Rattle.utils.proofs.easter.calculate_good_friday.Goals as goal
 
