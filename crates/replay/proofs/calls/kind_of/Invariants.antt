@@ -1,4 +1,4 @@
--- `replay::calls::kind_of` ends. The measure: there are fewer than 64 kinds.
+-- `replay::calls::kind_of` ends. The measure takes it that there are fewer than 64 kinds.
 use Rattle.std.proofs.Common.{◌-◌}
 use Rattle.replay.proofs.calls.kind_of.Given as goal
 

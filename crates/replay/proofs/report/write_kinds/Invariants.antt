@@ -1,4 +1,4 @@
--- `replay::report::write_kinds` ends. The measure: there are fewer than 64 kinds.
+-- `replay::report::write_kinds` ends. The measure takes it that there are fewer than 64 kinds.
 use Rattle.std.proofs.Common.{◌-◌}
 use Rattle.replay.proofs.report.write_kinds.Given as goal
 
