@@ -1,5 +1,4 @@
 -- `gregorian::date_of` meets its contract: the year, the month and the rest make the one date with that number.
-use borrow.Author.Rules.{rules}
 use Rattle.gregorian.proofs.Formulas.{date-parts, rest}
 use Rattle.gregorian.proofs.date_of.Goals as goal
 

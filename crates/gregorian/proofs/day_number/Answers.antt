@@ -1,45 +1,38 @@
 -- `gregorian::day_number` meets its contract: in January and February, and from March on.
-use Prim.Native.Nat.{◌+◌, ◌*◌, ◌/◌, ◌-◌, ◌≤◌}
+use Prim.Native.Nat.{◌+◌, ◌*◌, ◌/◌, ◌≤◌}
 use mathlib.Core.Path.{◌≡◌}
-use mathlib.Core.Logic.{⊎_elim}
 use native.Mathlib.Omega.{arith}
-use borrow.Author.Rules.{rules}
 use Rattle.gregorian.specs.Calendar.{day_number, last_day}
-use Rattle.gregorian.specs.Inner.{IsDate}
 use Rattle.gregorian.proofs.Laws.{is-date}
 use Rattle.gregorian.proofs.Formulas.{InMarchYear, january, march, number-by-march}
 use Rattle.gregorian.proofs.day_number.Goals as goal
+use Rattle.gregorian.proofs.day_number.Goals.{then-month-lt3, else-month-lt3, then-month-lt3-2, else-month-lt3-2}
 
--- TODO Start is no asked place
-date-is : (c : goal.Start) → IsDate c.args.year c.args.month c.args.day
-date-is c = is-date _ _ _ c.requires
-
-in-march-year : (c : goal.Joined-month-lt3-2) → (let a = c.args in InMarchYear a.year a.month c.if-month-lt3.march-year c.if-month-lt3-2.march-month)
+in-march-year : (c : goal.Joined-month-lt3-2) → InMarchYear c.args.year c.args.month c.if-month-lt3.march_year c.if-month-lt3-2.march_month
 in-march-year c =
-    let s = c in
-    let y = s.args.year in
-    let m = s.args.month in
-    let d = date-is s in
-    ⊎_elim
-    (λ w.
-    ⊎_elim (λ v. let l = w.0.taken in rw (w.1, v.1) (january y m d.exists.m-low l)) (λ v. let l = w.0.taken in let k = v.0.left in absurd (omega (arith, l, k)))
-    c.if-month-lt3-2.branch)
-    (λ w.
-    ⊎_elim (λ v. let l = w.0.left in let k = v.0.taken in absurd (omega (arith, l, k))) (λ v. let l = w.0.left in rw (w.1, v.1) (march y m d.exists.y-low l d.exists.m-high))
-    c.if-month-lt3-2.branch)
-    c.if-month-lt3.branch
+    let x = (is-date c.args.year c.args.month c.args.day c.requires).exists in
+    elim c.if-month-lt3.branch [
+      | then-month-lt3 w ↦ elim c.if-month-lt3-2.branch [
+        | then-month-lt3-2 v ↦ rw (w.march_year-is, v.march_month-is) (january c.args.year c.args.month x.m-low w.if-month-lt3.true)
+        | else-month-lt3-2 v ↦ absurd (omega arith)
+      ]
+      | else-month-lt3 w ↦ elim c.if-month-lt3-2.branch [
+        | then-month-lt3-2 v ↦ absurd (omega arith)
+        | else-month-lt3-2 v ↦ rw (w.march_year-is, v.march_month-is) (march c.args.year c.args.month x.y-low w.if-month-lt3.false x.m-high)
+      ]
+    ]
 
 pub overflow_sub-march_year : goal.overflow_sub-march_year
-overflow_sub-march_year c = (date-is c.before).exists.y-low
+overflow_sub-march_year c = (is-date c.args.year c.args.month c.args.day c.requires).exists.y-low
 
 pub days_in_years-requires : goal.days_in_years-requires
-days_in_years-requires c = omega (arith, (in-march-year c).y-high, (date-is c.before.before).y-high)
+days_in_years-requires c = omega (arith, (in-march-year c).y-high, (is-date c.args.year c.args.month c.args.day c.requires).y-high)
 
 -- the parts make up the number and the days from March to December
--- TODO After-days_in_years is no asked place
-whole : (c : goal.After-days_in_years)
-    → (let s = c in let n = day_number s.args.year s.args.month s.args.day in (c.days_in_years.result + (153 * c.if-month-lt3-2.march-month + 2) / 5 + s.args.day ≡ n + 306) × (n ≤ last_day))
-whole c = number-by-march _ _ _ _ _ _ c.requires c.days_in_years.ensures (in-march-year c.before)
+whole : (c : goal.After-row_known-1)
+    → (c.days_in_years.result + (153 * c.if-month-lt3-2.march_month + 2) / 5 + c.args.day ≡ day_number c.args.year c.args.month c.args.day + 306)
+    × (day_number c.args.year c.args.month c.args.day ≤ last_day)
+whole c = number-by-march _ _ _ _ _ _ c.requires c.days_in_years.ensures (in-march-year c.before.before)
 
 pub overflow_mul-result : goal.overflow_mul-result
 overflow_mul-result c = record { fits = omega (arith, (in-march-year c.before.before).m-high) }
@@ -48,13 +41,13 @@ pub overflow_add-result : goal.overflow_add-result
 overflow_add-result c = record { fits = omega (arith, (in-march-year c.before.before).m-high) }
 
 pub overflow_add-result-2 : goal.overflow_add-result-2
-overflow_add-result-2 c = record { fits = omega (arith, whole c.before) }
+overflow_add-result-2 c = record { fits = omega (arith, whole c) }
 
 pub overflow_add-result-3 : goal.overflow_add-result-3
-overflow_add-result-3 c = record { fits = omega (arith, whole c.before) }
+overflow_add-result-3 c = record { fits = omega (arith, whole c) }
 
 pub overflow_sub-result : goal.overflow_sub-result
-overflow_sub-result c = omega (arith, whole c.before)
+overflow_sub-result c = omega (arith, whole c)
 
 pub returns : goal.returns
-returns c = let w = whole c.before in omega (arith, w)
+returns c = omega (arith, whole c)

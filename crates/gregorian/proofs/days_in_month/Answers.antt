@@ -1,30 +1,21 @@
 -- `gregorian::days_in_month` meets its contract: February by the leap year, the other months by the formula, and 0 for no month.
-use mathlib.Core.Path.{◌≡◌, sym}
-use mathlib.Core.Bool.{Bool, true, false, cond}
-use native.Mathlib.Omega.{arith}
-use borrow.Author.Rules.{rules}
-use Rattle.gregorian.specs.Calendar.{month_length}
+use mathlib.Core.Path.{sym}
+use mathlib.Core.Bool.{true, false}
 use Rattle.gregorian.proofs.Formulas.{february, month-0, other-month, no-month}
 use Rattle.gregorian.proofs.days_in_month.Goals as goal
 
 -- February, by what is_leap answered
--- TODO After-is_leap is no asked place
-in-february : (c : goal.After-is_leap) (b : Bool) → c.is_leap.result ≡ b → cond b 29 28 ≡ month_length c.args.year c.args.month
-in-february c b e = february _ _ _ b c.if-month-eq2.true c.is_leap.ensures e
-
 pub returns-then-is_leap : goal.returns-then-is_leap
-returns-then-is_leap c = in-february c.before true c.if-is_leap.true
+returns-then-is_leap c = february _ _ _ true c.if-month-eq2.true c.is_leap.ensures c.if-is_leap.true
 
 pub returns-else-is_leap : goal.returns-else-is_leap
-returns-else-is_leap c = in-february c.before false c.if-is_leap.false
+returns-else-is_leap c = february _ _ _ false c.if-month-eq2.true c.is_leap.ensures c.if-is_leap.false
 
 pub returns-then-month-lt1 : goal.returns-then-month-lt1
 returns-then-month-lt1 c = month-0 c.args.year c.args.month c.if-month-lt1.true
 
 pub returns-then-month-lt13 : goal.returns-then-month-lt13
-returns-then-month-lt13 c =
-    let s = c in
-    other-month s.args.year s.args.month (omega (arith, c.if-month-lt1.false)) c.if-month-lt13.true s.if-month-eq2.false
+returns-then-month-lt13 c = other-month c.args.year c.args.month c.if-month-lt1.false c.if-month-lt13.true c.if-month-eq2.false
 
 pub returns-else-month-lt13 : goal.returns-else-month-lt13
 returns-else-month-lt13 c = sym (no-month c.args.year c.args.month c.if-month-lt13.false)

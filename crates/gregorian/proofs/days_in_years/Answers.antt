@@ -1,6 +1,5 @@
 -- `gregorian::days_in_years` meets its contract: the formula is the sum of the year lengths.
 use mathlib.Core.Path.{sym}
-use borrow.Author.Rules.{rules}
 use Rattle.gregorian.proofs.YearDays.{years-is}
 use Rattle.gregorian.proofs.days_in_years.Goals as goal
 

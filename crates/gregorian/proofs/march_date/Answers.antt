@@ -1,7 +1,6 @@
 -- `gregorian::march_date` meets its contract: March, and April from its 32nd day on.
 use mathlib.Core.Path.{refl}
 use native.Mathlib.Omega.{arith}
-use borrow.Author.Rules.{rules}
 use Rattle.gregorian.specs.Calendar.{total, month_length, day_number}
 use Rattle.gregorian.proofs.Laws.{by_number}
 use Rattle.gregorian.proofs.march_date.Goals as goal

@@ -1,5 +1,4 @@
 -- `gregorian::month_of` meets its contract: the guess is right or one too low, and the test tells which.
-use borrow.Author.Rules.{rules}
 use Rattle.gregorian.proofs.Formulas.{month-one-low, month-right, guess_small}
 use Rattle.gregorian.proofs.month_of.Goals as goal
 

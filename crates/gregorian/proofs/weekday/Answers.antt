@@ -1,6 +1,5 @@
 -- `gregorian::weekday` meets its contract: the remainder is taken first, so that no sum wraps.
 use native.Mathlib.Omega.{arith}
-use borrow.Author.Rules.{rules}
 use Rattle.gregorian.specs.Calendar.{weekday_of}
 use Rattle.gregorian.proofs.weekday.Goals as goal
 

@@ -1,6 +1,5 @@
 -- `gregorian::year_of` meets its contract: the guess is right or one too low, and the test tells which.
 use native.Mathlib.Omega.{arith}
-use borrow.Author.Rules.{rules}
 use Rattle.gregorian.proofs.Formulas.{year-one-low, year-right, year-part}
 use Rattle.gregorian.proofs.year_of.Goals as goal
 

@@ -1,7 +1,6 @@
 -- `gregorian::days::day_after` meets its contract: the number and the date go on together.
 use native.Mathlib.Omega.{arith}
 use mathlib.Core.Path.{refl, ◌∙◌}
-use borrow.Author.Rules.{rules}
 use Rattle.gregorian.proofs.DaySteps.{is-date-of, after_same}
 use Rattle.gregorian.proofs.days.day_after.Goals as goal
 

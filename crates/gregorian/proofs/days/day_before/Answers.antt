@@ -1,7 +1,6 @@
 -- `gregorian::days::day_before` meets its contract: the number and the date go back together.
 use native.Mathlib.Omega.{arith}
 use mathlib.Core.Path.{refl, ◌∙◌}
-use borrow.Author.Rules.{rules}
 use Rattle.gregorian.proofs.DaySteps.{number_is, is-date-of, before_same}
 use Rattle.gregorian.proofs.days.day_before.Goals as goal
 

@@ -3,7 +3,6 @@ use mathlib.Core.Path.{sym, ap}
 use lib.Dec.{ltb}
 use native.Mathlib.Omega.{arith}
 use borrow.Author.Tests.{lt-ltb}
-use borrow.Author.Rules.{rules}
 use Rattle.gregorian.proofs.Laws.{is-date, month-low}
 use Rattle.gregorian.proofs.days.month_goes_on.Goals as goal
 
