@@ -2,7 +2,6 @@
 use Prim.Native.Nat.{ℕ, ◌+◌, ◌-◌, ◌%◌, ◌≤◌}
 use mathlib.Core.Path.{◌≡◌, sym, ◌∙◌}
 use native.Mathlib.Omega.{arith}
-use borrow.Author.Rules.{rules}
 use Rattle.gregorian.specs.Calendar.{weekday_of}
 use Rattle.utils.proofs.WeekdayLaws.{last-up-to}
 use Rattle.utils.proofs.last_up_to.Goals as goal

@@ -3,8 +3,7 @@ use Prim.Native.Nat.{ℕ, ◌-◌, ◌*◌, ◌≤◌}
 use mathlib.Core.Path.{◌≡◌, ap, sym, ◌∙◌, subst}
 use mathlib.Core.Bool.{true}
 use native.Mathlib.Omega.{arith}
-use borrow.Author.Tests.{not-true, not-false, lt-ltb, le-ltb}
-use borrow.Author.Rules.{rules}
+use borrow.Author.Tests.{lt-ltb, le-ltb}
 use lib.IntN.{negsuc}
 use Rattle.gregorian.specs.Calendar.{day_number, month_length, is_date}
 use Rattle.gregorian.proofs.Laws.{is-date, date-by, month-low}
@@ -14,16 +13,10 @@ use Rattle.utils.specs.Weekday.{last_up_to, weeks_before, weeks_before_last, mos
 use Rattle.utils.proofs.WeekdayLaws.{HasLast, last_found, end-without-next, end-early, week-from-end, nth-in-years}
 use Rattle.utils.proofs.nth_from_end.Goals as goal
 
--- past the first test, the month has a last such weekday
-has_last : (c : goal.Else-not-has_next_month) → (let a = c.args in HasLast a.year a.month a.weekday)
-has_last c =
-    let p = c.requires in
-    record { is-month = p.0; is-weekday = p.1; has-next = sym c.has_next_month.ensures ∙ not-false _ c.if-not-has_next_month.false }
-
 pub returns-then-not-has_next_month : goal.returns-then-not-has_next_month
 returns-then-not-has_next_month c =
     let p = c.requires in
-    (sym (end-without-next _ _ _ c.args.k p.0 p.1 (sym c.has_next_month.ensures ∙ not-true _ c.if-not-has_next_month.true)), tt)
+    (sym (end-without-next _ _ _ c.args.k p.0 p.1 (sym c.has_next_month.ensures ∙ c.if-not-has_next_month.true)), tt)
 
 -- a day of the month from the 1st to the last
 in-month : (y m d : ℕ) → is_date y m 1 ≡ true → 1 ≤ d → d ≤ month_length y m → is_date y m d ≡ true
@@ -33,28 +26,25 @@ in-month y m d h l u =
     date-by y m d (x.y-low, g.y-high) (x.m-low, x.m-high) (l, u)
 
 -- the length of the month: 28 or more
--- TODO After-days_in_month-length is no asked place
-length-is : (c : goal.After-days_in_month-length) → (let a = c.args in (c.days_in_month-length.result ≡ month_length a.year a.month) × (28 ≤ month_length a.year a.month))
-length-is c =
-    let p = c in
-    let x = (is-date _ _ _ p.requires.0).exists in
-    (c.days_in_month-length.ensures, month-low p.args.year p.args.month x.m-low x.m-high)
+length-is : (y m n : ℕ) → is_date y m 1 ≡ true → n ≡ month_length y m → (n ≡ month_length y m) × (28 ≤ month_length y m)
+length-is y m n h e = let x = (is-date y m 1 h).exists in (e, month-low y m x.m-low x.m-high)
 
 -- the last four
+pub overflow_sub-length : goal.overflow_sub-length
+overflow_sub-length c = omega (arith, c.if-k-lt4.true, length-is _ _ _ c.requires.0 c.days_in_month-length.ensures)
+
 pub weekday_up_to-requires : goal.weekday_up_to-requires
 weekday_up_to-requires c =
-    let s = c in
-    let l = length-is s in
-    let p = s.requires in
+    let l = length-is _ _ _ c.requires.0 c.days_in_month-length.ensures in
+    let p = c.requires in
     let k = c.if-k-lt4.true in
     (in-month _ _ _ p.0 (omega (arith, k, l)) (omega (arith, l)), p.1, omega (arith, k, l))
 
 pub returns-then-k-lt4 : goal.returns-then-k-lt4
 returns-then-k-lt4 c =
-    let s = c in
-    let a = s.args in
-    let l = length-is s in
-    let h = has_last s.before in
+    let a = c.args in
+    let l = length-is _ _ _ c.requires.0 c.days_in_month-length.ensures in
+    let h : HasLast a.year a.month a.weekday = record { is-month = c.requires.0; is-weekday = c.requires.1; has-next = sym c.has_next_month.ensures ∙ c.if-not-has_next_month.false } in
     let k = c.if-k-lt4.true in
     let r = c.weekday_up_to.ensures in
     let up_to_lem = r.0 ∙ ap (λ (n : ℕ). last_up_to a.weekday (day_number a.year a.month (n - 7 * a.k))) l.0 in
@@ -69,27 +59,23 @@ returns-then-k-ge-MOST_NTH c = (simp (le-ltb c.args.k most_nth (omega (arith, c.
 -- the others
 pub weekday_up_to-last-requires : goal.weekday_up_to-last-requires
 weekday_up_to-last-requires c =
-    let s = c in
-    let l = length-is s in
-    let p = s.requires in
+    let l = length-is _ _ _ c.requires.0 c.days_in_month-length.ensures in
+    let p = c.requires in
     (in-month _ _ _ p.0 (omega (arith, l)) (omega (arith, l)), p.1, omega (arith, l))
 
 pub day_number-last_day-requires : goal.day_number-last_day-requires
 day_number-last_day-requires c =
-    let s = c in
-    let l = length-is s in
+    let l = length-is _ _ _ c.requires.0 c.days_in_month-length.ensures in
     let r = c.weekday_up_to-last.ensures in
-    in-month _ _ _ s.requires.0 (omega (arith, l, r)) (omega (arith, l, r))
+    in-month _ _ _ c.requires.0 (omega (arith, l, r)) (omega (arith, l, r))
 
 target_is : (c : goal.After-weeks_before) → (let a = c.args in c.weeks_before.result ≡ nth_weekday_of_month a.year a.month a.weekday (negsuc a.k))
 unfolding weeks_before_last
 target_is c =
-    let s = c in
-    let e = s.before.before.before in
-    let a = e.before.before.before.args in
-    let h = has_last e.before in
-    let last = c.day_number-last_day.ensures ∙ s.weekday_up_to-last.ensures.0 ∙ ap (λ (n : ℕ). last_up_to a.weekday (day_number a.year a.month n)) (length-is e).0 in
-    simp (lt-ltb a.k most_nth (omega (arith, s.if-k-ge-MOST_NTH.false)), last_found a.year a.month a.weekday h.is-month h.is-weekday h.has-next)
+    let a = c.args in
+    let has-next = sym c.has_next_month.ensures ∙ c.if-not-has_next_month.false in
+    let last = c.day_number-last_day.ensures ∙ c.weekday_up_to-last.ensures.0 ∙ ap (λ (n : ℕ). last_up_to a.weekday (day_number a.year a.month n)) c.days_in_month-length.ensures in
+    simp (lt-ltb a.k most_nth (omega (arith, c.if-k-ge-MOST_NTH.false)), last_found a.year a.month a.weekday c.requires.0 c.requires.1 has-next)
     (c.weeks_before.ensures ∙ ap (weeks_before a.month a.k) last)
 
 pub by_number-requires : goal.by_number-requires

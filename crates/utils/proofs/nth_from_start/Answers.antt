@@ -1,12 +1,10 @@
 -- `utils::nth_from_start` meets its contract: each return answers by the tests before it.
 use Prim.Native.Nat.{◌+◌, ◌-◌, ◌*◌, ◌≤◌}
 use mathlib.Core.Path.{◌≡◌, ap, sym, ◌∙◌, subst}
-use mathlib.Core.Bool.{true}
 use native.Mathlib.Omega.{arith}
 use borrow.Author.Tests.{lt-leb, le-leb}
-use borrow.Author.Rules.{rules}
 use lib.IntN.{pos}
-use Rattle.gregorian.specs.Calendar.{last_day, is_date}
+use Rattle.gregorian.specs.Calendar.{last_day}
 use Rattle.gregorian.proofs.Laws.{number-range, early-date}
 use Rattle.utils.specs.Weekday.{if_in_month, target_day, nth_from_start, most_nth, nth_weekday_of_month}
 use Rattle.utils.specs.Inner.{InYears}
@@ -28,15 +26,14 @@ weekday_up_to-requires c =
 
 pub returns-then-n-lt5 : goal.returns-then-n-lt5
 returns-then-n-lt5 c =
-    let s = c in
-    let p = s.before.before in
-    let a = p.args in
+    let a = c.args in
+    let p = c.requires in
     let r = c.weekday_up_to.ensures in
-    let low : 1 ≤ a.n = omega (arith, s.if-n-lt1.false) in
-    let high : a.n ≤ 4 = omega (arith, s.if-n-lt5.true) in
-    let day = r.0 ∙ week-from-start a.year a.month a.weekday a.n p.requires.1 low in (
-      simp (le-leb a.n most_nth (omega arith)) (ap Day day ∙ sym (nth-early a.year a.month a.weekday a.n p.requires.0 p.requires.1 low high)),
-      early-date _ _ _ p.requires.0 (omega (arith, r.2, low)) (omega (arith, r.1, high)),
+    let low : 1 ≤ a.n = omega (arith, c.if-n-lt1.false) in
+    let high : a.n ≤ 4 = omega (arith, c.if-n-lt5.true) in
+    let day = r.0 ∙ week-from-start a.year a.month a.weekday a.n p.1 low in (
+      simp (le-leb a.n most_nth (omega arith)) (ap Day day ∙ sym (nth-early a.year a.month a.weekday a.n p.0 p.1 low high)),
+      early-date _ _ _ p.0 (omega (arith, r.2, low)) (omega (arith, r.1, high)),
     )
 
 pub returns-then-n-gt-MOST_NTH : goal.returns-then-n-gt-MOST_NTH
@@ -46,15 +43,15 @@ returns-then-n-gt-MOST_NTH c = (simp (lt-leb c.args.n most_nth (omega (arith, c.
 pub weekday_up_to-first-requires : goal.weekday_up_to-first-requires
 weekday_up_to-first-requires c = let p = c.requires in (early-date _ _ _ p.0 (omega arith) (omega arith), p.1, omega arith)
 
-first-is-date : (c : goal.After-weekday_up_to-first) → (let a = c.args in is_date a.year a.month c.weekday_up_to-first.result ≡ true)
-first-is-date c = let r = c.weekday_up_to-first.ensures in early-date _ _ _ c.requires.0 (omega (arith, r.2)) (omega (arith, r.1))
+pub day_number-requires : goal.day_number-requires
+day_number-requires c = let r = c.weekday_up_to-first.ensures in early-date _ _ _ c.requires.0 (omega (arith, r.2)) (omega (arith, r.1))
 
 -- and a date
 first_range : (c : goal.After-day_number) → (1 ≤ c.day_number.result) × (c.day_number.result ≤ last_day)
-first_range c = let r = number-range _ _ _ (first-is-date c.before) in (omega (arith, c.day_number.ensures, r), omega (arith, c.day_number.ensures, r))
+first_range c = let r = number-range _ _ _ (day_number-requires c.before) in (omega (arith, c.day_number.ensures, r), omega (arith, c.day_number.ensures, r))
 
 pub overflow_add-target : goal.overflow_add-target
-overflow_add-target c = omega (arith, first_range c)
+overflow_add-target c = record { fits = omega (arith, first_range c) }
 
 pub if_in_month-requires : goal.if_in_month-requires
 if_in_month-requires c = omega (arith, first_range c)
@@ -62,13 +59,12 @@ if_in_month-requires c = omega (arith, first_range c)
 target_is : (c : goal.After-if_in_month) → (let a = c.args in c.if_in_month.result ≡ nth_weekday_of_month a.year a.month a.weekday (pos a.n))
 unfolding nth_from_start target_day
 target_is c =
-    let s = c in
-    let p = s.before.before.before.before in
-    let a = p.args in
-    let low : 1 ≤ a.n = omega (arith, s.if-n-lt1.false) in
-    let first = s.weekday_up_to-first.ensures.0 ∙ week-from-start a.year a.month a.weekday 1 p.requires.1 (omega arith) in
+    let a = c.args in
+    let p = c.requires in
+    let low : 1 ≤ a.n = omega (arith, c.if-n-lt1.false) in
+    let first = c.weekday_up_to-first.ensures.0 ∙ week-from-start a.year a.month a.weekday 1 p.1 (omega arith) in
     let target : c.day_number.result + 7 * (a.n - 1) ≡ target_day a.year a.month a.weekday a.n = omega (arith, c.day_number.ensures, first) in
-    simp (le-leb a.n most_nth (omega (arith, s.if-n-gt-MOST_NTH.false)), p.requires.0, le-leb _ _ p.requires.1, le-leb 1 a.n low) (c.if_in_month.ensures ∙ ap (if_in_month _) target)
+    simp (le-leb a.n most_nth (omega (arith, c.if-n-gt-MOST_NTH.false)), p.0, le-leb _ _ p.1, le-leb 1 a.n low) (c.if_in_month.ensures ∙ ap (if_in_month _) target)
 
 pub by_number-requires : goal.by_number-requires
 by_number-requires c =

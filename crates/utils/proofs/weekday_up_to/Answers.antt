@@ -32,6 +32,12 @@ near c =
     let i = (last-is c.args.weekday n p.1 (omega (arith, p.2, c.day_number-n.ensures, day-low c.args.year c.args.month c.args.day))).1 in
     (omega (arith, e, i), omega (arith, e, i))
 
+pub overflow_sub-result : goal.overflow_sub-result
+overflow_sub-result c = (near c).0
+
+pub overflow_sub-result-2 : goal.overflow_sub-result-2
+overflow_sub-result-2 c = omega (arith, (near c).1, c.requires.2)
+
 pub returns : goal.returns
 returns c =
     let a = c.args in

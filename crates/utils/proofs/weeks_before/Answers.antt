@@ -2,7 +2,6 @@
 use Prim.Native.Nat.{◌*◌}
 use native.Mathlib.Omega.{arith}
 use borrow.Author.Tests.{lt-ltb, le-ltb}
-use borrow.Author.Rules.{rules}
 use Rattle.utils.specs.Weekday.{weeks_before}
 use Rattle.utils.proofs.weeks_before.Goals as goal
 

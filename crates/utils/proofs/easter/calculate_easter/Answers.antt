@@ -1,10 +1,9 @@
 -- `utils::easter::calculate_easter` meets its contract: so many days after 22 March.
-use Prim.Native.Nat.{◌+◌}
+use Prim.Native.Nat.{ℕ, ◌+◌, ◌≤◌}
 use mathlib.Core.Path.{◌≡◌, ap, sym, ◌∙◌}
 use mathlib.Core.Bool.{true}
 use native.Mathlib.Omega.{arith}
 use borrow.Author.Tests.{lt-leb, le-leb}
-use borrow.Author.Rules.{rules}
 use Rattle.gregorian.specs.Calendar.{last_year, month_length, is_date}
 use Rattle.gregorian.proofs.Laws.{date-by, number-range}
 use Rattle.utils.specs.declared.OptionalDay.TheVariants.{Day}
@@ -21,20 +20,19 @@ unfolding calculate_easter
 returns-then-year-gt-LAST_YEAR c = simp (le-leb 1 c.args.year (omega arith), lt-leb c.args.year last_year (omega arith))
 
 -- past the tests of the year
-is-date : (c : goal.Else-year-gt-LAST_YEAR) → is_date c.args.year 3 22 ≡ true
+is-date : (y : ℕ) → 1 ≤ y → y ≤ last_year → is_date y 3 22 ≡ true
 unfolding month_length
-is-date c = date-by _ 3 22 (omega arith, omega arith) (omega arith) (omega arith)
+is-date y l h = date-by y 3 22 (l, h) (omega arith, omega arith) (omega arith, omega arith)
 
 pub day_number-requires : goal.day_number-requires
-day_number-requires c = is-date c
+day_number-requires c = is-date c.args.year c.if-year-lt1.false c.if-year-gt-LAST_YEAR.false
 
 pub overflow_add-easter : goal.overflow_add-easter
 overflow_add-easter c =
-    let s = c in
-    omega (arith, s.day_number.ensures, number-range _ 3 22 (is-date s.before), c.easter_days.ensures.1)
+    let d = is-date c.args.year c.if-year-lt1.false c.if-year-gt-LAST_YEAR.false in
+    record { fits = omega (arith, c.day_number.ensures, number-range _ 3 22 d, c.easter_days.ensures.1) }
 
 pub returns : goal.returns
 returns c =
-    let s = c in
-    let day = ap (λ n. n + c.easter_days.result) s.day_number.ensures in
-    ap Day (day ∙ sym c.easter_days.ensures.0) ∙ sym (easter-found _ (omega arith) (omega arith))
+    let day = ap (λ n. n + c.easter_days.result) c.day_number.ensures in
+    ap Day (day ∙ sym c.easter_days.ensures.0) ∙ sym (easter-found _ c.if-year-lt1.false c.if-year-gt-LAST_YEAR.false)

@@ -1,24 +1,18 @@
 -- `utils::easter::calculate_easter_monday` meets its contract: Easter is in years 1 to 9999, so the sum fits.
 use Prim.Native.Nat.{◌+◌}
-use mathlib.Core.Path.{◌≡◌, sym, ◌∙◌}
+use mathlib.Core.Path.{sym}
 use native.Mathlib.Omega.{arith}
-use borrow.Author.Rules.{rules}
-use Rattle.utils.specs.declared.OptionalDay.TheVariants.{Day}
-use Rattle.utils.specs.Easter.{calculate_easter, calculate_easter_monday}
+use Rattle.utils.specs.Easter.{calculate_easter_monday}
 use Rattle.utils.proofs.EasterLaws.{after_none, after-day, easter-day}
 use Rattle.utils.proofs.easter.calculate_easter_monday.Goals as goal
 
--- past `let .. else`, Easter is there
-known : (c : goal.In-Day) → Day c.easter-1.given.0.0 ≡ calculate_easter c.args.year
-known c = sym c.easter-1.given.1 ∙ c.calculate_easter.ensures
-
 pub returns-in_default : goal.returns-in_default
 unfolding calculate_easter_monday
-returns-in_default c = after_none (λ n. n + 1) _ (sym c.enum_told-1.given.1 ∙ c.calculate_easter.ensures)
+returns-in_default c = after_none (λ n. n + 1) _ c.in_default.ensures
 
 pub overflow_add-result : goal.overflow_add-result
-overflow_add-result c = omega (arith, easter-day _ _ (sym (known c)))
+overflow_add-result c = omega (arith, easter-day _ _ (sym c.in-Day.ensures))
 
 pub returns : goal.returns
 unfolding calculate_easter_monday
-returns c = after-day (λ n. n + 1) _ _ (known c)
+returns c = after-day (λ n. n + 1) _ _ c.in-Day.ensures

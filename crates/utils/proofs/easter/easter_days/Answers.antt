@@ -2,7 +2,6 @@
 use Prim.Native.Nat.{ℕ, ◌+◌}
 use mathlib.Core.Path.{ap, sym, ◌∙◌}
 use native.Mathlib.Omega.{arith}
-use borrow.Author.Rules.{rules}
 use Rattle.gregorian.specs.Calendar.{day_number}
 use Rattle.utils.proofs.EasterLaws.{days_after, easter-days, days-high}
 use Rattle.utils.proofs.easter.easter_days.Goals as goal

@@ -1,6 +1,5 @@
 -- `utils::easter::moon_days` meets its contract: no difference falls below 0, and the rest by 30 is at most 29.
 use mathlib.Core.Path.{refl}
-use borrow.Author.Rules.{rules}
 use Rattle.utils.specs.Easter.{moon_days}
 use Rattle.utils.proofs.EasterLaws.{g-difference, rest_30}
 use Rattle.utils.proofs.easter.moon_days.Goals as goal
