@@ -2,27 +2,23 @@
 use mathlib.Core.Path.{ap, sym, ◌∙◌}
 use mathlib.Core.Bool.{◌&&◌, ◌||◌}
 use lib.Dec.{eqb}
-use borrow.Author.Tests.{not-true}
-use borrow.Author.Rules.{rules}
 use Rattle.gregorian.specs.Calendar.{tuesday, thursday, sunday, weekday_of}
 use Rattle.japan.specs.Inner.{is_bridge_day}
 use Rattle.japan.proofs.JapanLaws.{not-bridge-day}
 use Rattle.japan.proofs.holidays.is_bridge_day.Goals as goal
 
 pub returns-then-not-is_within : goal.returns-then-not-is_within
-returns-then-not-is_within c = not-bridge-day _ _ (sym c.is_within.ensures ∙ not-true _ c.if-not-is_within.true)
+returns-then-not-is_within c = not-bridge-day _ _ (sym c.is_within.ensures ∙ c.if-not-is_within.true)
 
 pub returns : goal.returns
 unfolding is_bridge_day
 returns c =
-    let s = c in
-    let t = s.before.before.before.before in
-    let n = t.before.before.before.args.day.number in
-    let may2 = t.fixed-day.ensures.0 in
-    let may3 = s.fixed_day-may_3.ensures.0 in
-    let may4 = s.fixed_day-may_4.ensures.0 in
-    let may5 = s.fixed_day-may_5.ensures.0 in
-    let may6 = s.fixed_day-may_6.ensures.0 in
+    let n = c.args.day.number in
+    let may2 = c.fixed_day-may_2.ensures.0 in
+    let may3 = c.fixed_day-may_3.ensures.0 in
+    let may4 = c.fixed_day-may_4.ensures.0 in
+    let may5 = c.fixed_day-may_5.ensures.0 in
+    let may6 = c.fixed_day-may_6.ensures.0 in
     let on3 = c.weekday.ensures ∙ ap weekday_of may3 in
     let on5 = c.weekday-2.ensures ∙ ap weekday_of may5 in
     let on4 = c.weekday-3.ensures ∙ ap weekday_of may4 in

@@ -1,7 +1,6 @@
 -- `japan::holidays::is_equinox` meets its contract: before 2020, after 2030, and between them the day of the table.
 use native.Mathlib.Omega.{arith}
 use borrow.Author.Tests.{lt-leb, le-leb}
-use borrow.Author.Rules.{rules}
 use Rattle.japan.specs.Japan.{equinox}
 use Rattle.japan.proofs.JapanLaws.{equinox-day}
 use Rattle.japan.proofs.holidays.is_equinox.Goals as goal
@@ -16,8 +15,7 @@ returns-then-year-gt2030 c = let year = c.args.day.date.year in simp (le-leb 202
 
 pub is_fixed_holiday-requires : goal.is_fixed_holiday-requires
 is_fixed_holiday-requires c =
-    let s = c in
-    (s.requires.0, s.requires.1, s.requires.2, equinox-day s.args.t1 _ c.if-year-lt2020.false c.if-year-gt2030.false s.requires.3)
+    (c.requires.0, c.requires.1, c.requires.2, equinox-day c.args.days _ c.if-year-lt2020.false c.if-year-gt2030.false c.requires.3)
 
 pub returns : goal.returns
 unfolding equinox
