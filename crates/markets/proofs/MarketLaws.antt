@@ -1,7 +1,7 @@
 -- The codes of the markets, and the rules of a market by its code.
 -- Assumes nothing.
 use Prim.Native.Nat.{ℕ, suc, ◌≤◌, ◌<◌}
-use mathlib.Core.Path.{◌≡◌, refl, ap, sym, ◌∙◌}
+use mathlib.Core.Path.{◌≡◌, ap, sym, ◌∙◌}
 use mathlib.Core.Bool.{true, false}
 use mathlib.Core.List.{List, []}
 use lib.Dec.{ltb, leb}
@@ -9,10 +9,9 @@ use lib.ListN.{length, get_or-eq_default}
 use native.Mathlib.Decide.{dec_le}
 use native.Mathlib.Omega.{arith}
 use borrow.Author.Tests.{lt-ltb, le-ltb, ltb-true, lt-leb, le-leb}
-use Rattle.gregorian.proofs.Total.{upto}
 use Rattle.rule_days.specs.Inner.{Rule, any_of}
 use Rattle.markets.specs.Markets.{holidays_by_code, is_market}
-use Rattle.markets.specs.Inner.{us_rules, rules_by_code, rules}
+use Rattle.markets.specs.Inner.{rules_by_code, rules}
 
 -- ---- the codes
 
@@ -28,10 +27,6 @@ unfolding is_market
 market-code m e = ltb-true m (length holidays_by_code) e
 
 -- ---- the rules
-
--- NYSE and NASDAQ
-pub us-market : (market month year n : ℕ) → market < 2 → any_of month (us_rules year n) ≡ any_of month (rules market year n)
-us-market market month year n h = upto (λ market. any_of month (us_rules year n) ≡ any_of month (rules market year n)) 2 ((tt, refl), refl) market h
 
 pub no-market : (market month year n : ℕ) → length rules_by_code ≤ market → false ≡ any_of month (rules market year n)
 no-market market month year n h =

@@ -4,4 +4,4 @@ use Rattle.markets.proofs.MonthFirst.{month-first}
 use Rattle.markets.proofs.is_holiday.Goals as goal
 
 pub returns : goal.returns
-returns c = let s = c in c.is_holiday_on.ensures ∙ month-first s.args.market s.args.day s.requires.0 s.requires.1
+returns c = c.is_holiday_on.ensures ∙ month-first c.args.market c.args.day c.requires.0 c.requires.1
