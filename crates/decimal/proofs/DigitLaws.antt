@@ -79,7 +79,10 @@ pub digit_at : (text : List ℕ) (i : ℕ) → i < leading_digits text → (48 �
 unfolding leading_digits
 digit_at =
     by_digits (λ text. (i : ℕ) → i < leading_digits text → (48 ≤ get_or text i 0) × (get_or text i 0 ≤ 57)) (λ i h. absurd (omega arith))
-    (λ b text low high e rest i. elim i [ zero ↦ λ h. (low, high) | suc i ↦ λ h. rest i (omega arith) ])
+    (λ b text low high e rest i. elim i as (λ k. k < leading_digits (b ∷ text) → (48 ≤ get_or (b ∷ text) k 0) × (get_or (b ∷ text) k 0 ≤ 57)) [
+      | zero ↦ λ h. (low, high)
+      | suc k ↦ λ h. rest k (omega arith)
+    ])
     (λ b text e i h. absurd (omega arith))
 
 -- so many bytes of the text are digits

@@ -1,17 +1,10 @@
-use Prim.Native.Nat.{ℕ, ◌+◌, ◌-◌, ◌≤◌, ◌<◌}
-use mathlib.Core.Path.{◌≡◌, refl, sym, ap, ◌∙◌}
-use mathlib.Core.List.{List, append-nil}
-use lib.ListN.{length, set, replicate, length-set, length-replicate, replicate-append-replicate, drop_of_length-le}
-use native.Mathlib.Omega.{arith}
-use borrow.Author.Rules.{rules}
+-- `buffers::fill`: the entries so far hold the value, and the rest of the buffer is as it was.
+use Rattle.std.proofs.Common.{◌≡◌, ◌≤◌, ◌-◌, length, replicate}
 use Rattle.buffers.specs.Buffers.{overwrite}
-use Rattle.buffers.proofs.BufferLaws.{overwrite-none, overwrite-byte}
 use Rattle.buffers.proofs.fill.Given as goal
 
--- the entries so far, and the rest of the buffer as it was
-abbrev invariant-loop : tie.invariant-loop
-invariant-loop value out₀ i₀ out i = (i ≤ length out₀) × (length out ≡ length out₀) × (out ≡ overwrite (replicate i value) out₀)
+abbrev pub invariant-loop-i : goal.invariant-loop-i
+invariant-loop-i l = (l.i ≤ length l.fn.out) × (l.out ≡ overwrite (replicate l.i l.value) l.fn.out)
 
--- the entries left
-abbrev decreases-loop : tie.decreases-loop
-decreases-loop value out₀ i₀ out i = length out₀ - i
+abbrev pub decreases-loop-i : goal.decreases-loop-i
+decreases-loop-i l = length l.initial.out - l.i

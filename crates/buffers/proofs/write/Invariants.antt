@@ -1,19 +1,10 @@
-use Prim.Native.Nat.{ℕ, ◌+◌, ◌-◌, ◌≤◌, ◌<◌}
-use mathlib.Core.Path.{◌≡◌, refl, sym, ap, ◌∙◌}
-use mathlib.Core.List.{List}
-use lib.ListN.{length, get_or, take, set, length-set}
-use lib.Seq.{take-suc, take_all, length-take-le}
-use native.Mathlib.Numerals.{add-one}
-use native.Mathlib.Omega.{arith}
-use borrow.Author.Rules.{rules}
+-- `buffers::write`: the bytes so far are written, and the rest of the buffer is as it was.
+use Rattle.std.proofs.Common.{◌≡◌, ◌≤◌, ◌-◌, length, take}
 use Rattle.buffers.specs.Buffers.{overwrite}
-use Rattle.buffers.proofs.BufferLaws.{overwrite-none, overwrite-byte}
 use Rattle.buffers.proofs.write.Given as goal
 
--- the bytes so far, and the rest of the buffer as it was
-abbrev invariant-loop : tie.invariant-loop
-invariant-loop bytes out₀ i₀ out i = (i ≤ length bytes) × (length out ≡ length out₀) × (out ≡ overwrite (take i bytes) out₀)
+abbrev pub invariant-loop-i : goal.invariant-loop-i
+invariant-loop-i l = (l.i ≤ length l.bytes) × (l.out ≡ overwrite (take l.i l.bytes) l.fn.out)
 
--- the bytes left
-abbrev decreases-loop : tie.decreases-loop
-decreases-loop bytes out₀ i₀ out i = length bytes - i
+abbrev pub decreases-loop-i : goal.decreases-loop-i
+decreases-loop-i l = length l.bytes - l.i

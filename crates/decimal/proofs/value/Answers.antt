@@ -1,47 +1,33 @@
 -- `decimal::value` meets its contract: each turn of the loop takes one digit more.
-use Prim.Native.Nat.{◌+◌, ◌-◌, ◌*◌, ◌^◌, ◌≤◌, ◌<◌}
-use mathlib.Core.Path.{◌≡◌, refl, sym, ◌∙◌}
+use Prim.Native.Nat.{ℕ, ◌+◌, ◌-◌, ◌*◌, ◌^◌, ◌≤◌, ◌<◌}
+use mathlib.Core.Path.{◌≡◌, sym, ◌∙◌}
+use mathlib.Core.List.{List}
 use lib.ListN.{length, get_or, drop}
 use native.Mathlib.Omega.{arith}
-use borrow.Author.Rules.{rules}
-use Rattle.decimal.specs.Decimal.{value_from, value_of}
+use Rattle.decimal.specs.Decimal.{leading_digits, value_from, value_of}
 use Rattle.decimal.proofs.DigitLaws.{digit_at, value-more, value-end, value_grows, value-bound}
 use Rattle.decimal.proofs.value.Goals as goal
 
-loop-holds : tie.Need-loop-init invariant-loop decreases-loop
-loop-holds c = (omega arith, refl)
+-- The byte at i is a digit; the value with it is at most the whole value, and so below 10 ^ 9.
+value-here : (digits : List ℕ) (i n : ℕ) → leading_digits digits ≡ length digits → length digits ≤ 9 → i < length digits
+    → value_of digits ≡ value_from n (drop i digits)
+    → (let byte = get_or digits i 0 in (48 ≤ byte) × (byte ≤ 57) × (n * 10 + (byte - 48) < 10 ^ 9))
+value-here digits i n all short h e =
+    let whole : value_of digits < 10 ^ 9 = value-bound digits all short in
+    let byte = digit_at digits i (omega arith) in
+    (byte.0, byte.1, omega (arith, value-more digits i n h, value_grows (drop (i + 1) digits) (n * 10 + (get_or digits i 0 - 48))))
 
-loop-again : tie.Need-loop-preserved invariant-loop decreases-loop
-loop-again c =
-    let l = c.before.before.loop in
-    (omega arith, l.invariant.1 ∙ value-more _ l.i l.value (omega arith))
+pub overflow_mul-value : goal.overflow_mul-value
+overflow_mul-value c = omega (arith, value-here _ _ _ c.requires.0 c.requires.1 (omega arith) c.loop-i.invariant.1)
 
--- the byte here is a digit
-digit-here : (c : tie.In-loop invariant-loop decreases-loop)
-    → (let byte = get_or c.before.before.args.digits.now c.before.loop.i 0 in (48 ≤ byte) × (byte ≤ 57))
-digit-here c = digit_at c.before.before.args.digits.now c.before.loop.i (omega arith)
+pub overflow_sub-value : goal.overflow_sub-value
+overflow_sub-value c = omega (arith, value-here _ _ _ c.requires.0 c.requires.1 (omega arith) c.loop-i.invariant.1)
 
--- the value with it is at most the whole value, and so below 10 ^ 9
-value-here : (c : tie.In-loop invariant-loop decreases-loop)
-    → c.before.loop.value * 10 + (get_or c.before.before.args.digits.now c.before.loop.i 0 - 48) < 10 ^ 9
-value-here c =
-    let digits = c.before.before.args.digits.now in
-    let i = c.before.loop.i in
-    let n = c.before.loop.value in
-    let whole : value_of digits < 10 ^ 9 = value-bound digits c.before.before.requires.0 c.before.before.requires.1 in
-    omega (arith, value-more digits i n (omega arith), value_grows (drop (i + 1) digits) (n * 10 + (get_or digits i 0 - 48)))
+pub overflow_add-value : goal.overflow_add-value
+overflow_add-value c = omega (arith, value-here _ _ _ c.requires.0 c.requires.1 (omega arith) c.loop-i.invariant.1)
 
-mul-value : tie.Need-overflow-mul-value invariant-loop decreases-loop
-mul-value c = omega (arith, value-here c.before)
+pub loop-i-preserved : goal.loop-i-preserved
+loop-i-preserved c = (omega arith, c.loop-i.invariant.1 ∙ value-more _ c.loop-i.i c.loop-i.value (omega arith))
 
-sub-value : tie.Need-overflow-sub-value invariant-loop decreases-loop
-sub-value c = omega (arith, digit-here c.before)
-
-cast-value : tie.Need-overflow-cast-value invariant-loop decreases-loop
-cast-value c = omega (arith, digit-here c.before)
-
-add-value : tie.Need-overflow-add-value invariant-loop decreases-loop
-add-value c = omega (arith, digit-here c.before, value-here c.before)
-
-returns : tie.Need-returns invariant-loop decreases-loop
-returns c = let l = c.before.loop in sym (l.invariant.1 ∙ value-end _ l.i _ (omega arith))
+pub returns : goal.returns
+returns c = sym (c.loop-i.invariant.1 ∙ value-end _ c.loop-i.i _ (omega arith))
