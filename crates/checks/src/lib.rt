@@ -16,6 +16,7 @@ use markets::years::{MAX_YEAR, MIN_YEAR, is_supported};
 const LAST_TIME: u32 = 86399;
 
 // [time]
+#[tactic(auto, unfolding(crate::specs::Checks::is_time))]
 pub fn is_time(time: u32) -> bool
     ensures { result ≡ is_time time }
 {
@@ -30,6 +31,7 @@ pub enum DayResult {
 }
 
 // Errors 8 and 5.
+#[tactic(auto, unfolding(crate::specs::Checks::checked_day))]
 pub fn checked_day(market: u32, year: u32, month: u32, day: u32) -> DayResult
     ensures { result ≡ checked_day market year month day }
 {
@@ -45,6 +47,7 @@ pub fn checked_day(market: u32, year: u32, month: u32, day: u32) -> DayResult
 }
 
 // Errors 8, 5, 7 and 1. A call that takes no time has none out of range.
+#[tactic(auto, unfolding(crate::specs::Checks::supported_day))]
 pub fn supported_day(market: u32, year: u32, month: u32, day: u32, time_in_range: bool) -> DayResult
     ensures { result ≡ supported_day market year month day time_in_range }
 {
@@ -63,6 +66,7 @@ pub fn supported_day(market: u32, year: u32, month: u32, day: u32, time_in_range
     }
 }
 
+#[tactic(auto, unfolding(crate::specs::Checks::is_month))]
 fn is_month(month: u32) -> bool
     ensures { result ≡ is_month month }
 {
@@ -70,6 +74,7 @@ fn is_month(month: u32) -> bool
 }
 
 // [month-error-date]
+#[tactic(auto, unfolding(crate::specs::Checks::month_error_date))]
 fn month_error_date(year: u32, month: u32) -> Date
     ensures { result ≡ month_error_date year month }
 {
@@ -96,6 +101,7 @@ pub enum Check {
 }
 
 // Errors 8, 1 and 2.
+#[tactic(auto, unfolding(crate::specs::Checks::checked_month))]
 pub fn checked_month(market: u32, year: u32, month: u32) -> Check
     ensures { result ≡ checked_month market year month }
 {
@@ -114,6 +120,7 @@ pub fn checked_month(market: u32, year: u32, month: u32) -> Check
 }
 
 // [count]: whether the start is before the supported years, or the end after them.
+#[tactic(auto, unfolding(crate::specs::Checks::leaves_years))]
 fn leaves_years(start_year: u32, end_year: u32) -> bool
     ensures { result ≡ leaves_years start_year end_year }
 {
@@ -122,6 +129,7 @@ fn leaves_years(start_year: u32, end_year: u32) -> bool
 
 // [count]: errors 5 for the start, 5 for the end, and 1 with the start. A market, or a set of them, is checked before. Whether start and
 // end are dates is handed over, so that this is small enough to be inlined in each call.
+#[tactic(auto, unfolding(crate::specs::Checks::checked_range))]
 pub fn checked_range(starts: bool, ends: bool, start: Date, end: Date) -> Check
     requires { (starts ≡ is_date_of start) × (ends ≡ is_date_of end) }
     ensures { result ≡ check_of (checked_range start end) }
@@ -140,6 +148,7 @@ pub fn checked_range(starts: bool, ends: bool, start: Date, end: Date) -> Check
 }
 
 // Error 9, or how many entries are written.
+#[tactic(auto, unfolding(crate::specs::Checks::checked_room))]
 pub fn checked_room(needed: usize, room: usize) -> CountResult
     requires { needed < 2 ^ 32 }
     ensures { result ≡ checked_room needed room }

@@ -71,6 +71,7 @@ fn only_number(number: u32) -> ErrorFields
     }
 }
 
+#[tactic(auto, unfolding(crate::specs::Errors::error_fields))]
 pub fn fields(e: CalendarError) -> ErrorFields
     ensures { result ≡ error_fields e }
 {

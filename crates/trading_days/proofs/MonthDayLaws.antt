@@ -20,6 +20,10 @@ use Rattle.ranges.proofs.Lists.{filter_map, trading-length, trading-kept, tradin
 use Rattle.ranges.proofs.Items.{every-trading-day}
 use Rattle.trading_days.specs.Month.{month_list}
 
+-- which days of a month trade, by their numbers in it
+abbrev pub in_month : ℕ → ℕ → ℕ → ℕ → Bool
+in_month market y m day = is_trading_day market (day_number y m day)
+
 -- A day of a month, from the day number of its first: which day of the month it is.
 pub record DayInMonth (y m first : ℕ) (day : CalendarDay) : Type 0 where
   pub number : day.number ≡ day_number y m (suc (day.number - first))
@@ -84,7 +88,7 @@ unfolding month_list
 list-in-month market y m = every-trading-day (λ d. d ≤ month_length y m) _ 1 (month_length y m) (λ d l h. h)
 
 -- A number that is no month has no days.
-length_high : (y m : ℕ) → month_length y m ≤ 31
+pub length_high : (y m : ℕ) → month_length y m ≤ 31
 unfolding month_length
 length_high y m =
     elim (dec_le m 12) [
