@@ -15,6 +15,7 @@ pub struct CountAnswer {
     pub date: Date,
 }
 
+#[tactic(auto, unfolding(crate::specs::Answers::count_answer))]
 pub fn count_answer(res: CountResult) -> CountAnswer
     ensures { result ≡ count_answer res }
 {

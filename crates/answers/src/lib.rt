@@ -34,6 +34,7 @@ const NO_OPTIONAL_DATE: OptionalDate = OptionalDate {
 };
 
 // The date of an nth weekday, asked about a month: a day of that month is not converted.
+#[tactic(auto, unfolding(crate::specs::Answers::optional_date))]
 pub fn nth_weekday_answer(year: u32, month: u32, answer: NthWeekday) -> OptionalDate
     requires { NthInYears year month answer }
     ensures { result ≡ optional_date (day_of_nth year month answer) }
@@ -52,6 +53,7 @@ pub fn nth_weekday_answer(year: u32, month: u32, answer: NthWeekday) -> Optional
 }
 
 // Easter Sunday, or a day before or after it, by the day of March on which it is at the earliest, as Easter on the 22nd.
+#[tactic(auto, unfolding(crate::specs::Answers::optional_date, utils::specs::Easter::calculate_easter))]
 pub fn easter_answer(year: u32, march_day: u32) -> OptionalDate
     requires { (1 ≤ march_day) × (march_day ≤ 27) }
     ensures { result ≡ optional_date (map_day (λ n. n + march_day - 22) (calculate_easter year)) }
@@ -79,12 +81,14 @@ pub struct BoolAnswer {
 }
 
 // [host-answers]: yes is 1 and no is 0.
+#[tactic(auto, unfolding(crate::specs::Answers::flag_of))]
 fn flag(yes: bool) -> u32
     ensures { result ≡ flag_of yes }
 {
     if yes { 1 } else { 0 }
 }
 
+#[tactic(auto, unfolding(crate::specs::Answers::bool_answer))]
 pub fn bool_answer(res: BoolResult) -> BoolAnswer
     ensures { result ≡ bool_answer res }
 {

@@ -17,6 +17,7 @@ pub struct TradingDayAnswer {
     pub outside: u32,
 }
 
+#[tactic(auto, unfolding(crate::specs::Answers::trading_day_answer))]
 pub fn trading_day_answer(res: TradingDayResult) -> TradingDayAnswer
     ensures { result ≡ trading_day_answer res }
 {

@@ -15,6 +15,7 @@ pub struct OptionalDateAnswer {
     pub date: Date,
 }
 
+#[tactic(auto, unfolding(crate::specs::Answers::optional_date_answer))]
 pub fn optional_date_answer(res: OptionalDateResult) -> OptionalDateAnswer
     ensures { result ≡ optional_date_answer res }
 {

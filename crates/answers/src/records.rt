@@ -35,6 +35,7 @@ pub const NO_HOURS: Hours = Hours {
     early_close: 0,
 };
 
+#[tactic(auto, unfolding(crate::specs::Records::optional_session))]
 pub fn optional_session(has: u32, session: Session) -> OptionalSession
     ensures { result ≡ optional_session has session }
 {
@@ -45,6 +46,7 @@ pub fn optional_session(has: u32, session: Session) -> OptionalSession
     }
 }
 
+#[tactic(auto, unfolding(crate::specs::Records::optional_time))]
 fn optional_time(has: u32, time: u32) -> OptionalTime
     ensures { result ≡ optional_time has time }
 {

@@ -19,6 +19,7 @@ pub struct SliceAnswer {
     pub date: Date,
 }
 
+#[tactic(auto, unfolding(crate::specs::Answers::slice_answer))]
 fn slice_answer(res: SliceResult) -> SliceAnswer
     ensures { result ≡ slice_answer res }
 {
@@ -49,6 +50,7 @@ fn slice_answer(res: SliceResult) -> SliceAnswer
 }
 
 // [slice-order], by what the count call returned: its error, with what comes with it, or the order over the days counted.
+#[tactic(auto, unfolding(crate::specs::SliceCall::slice_order_answer, crate::specs::SliceCall::slice_order_buffer))]
 pub fn slice_order_answer(quantity: u32, counted: CountAnswer, out: &mut [u32]) -> SliceAnswer
     ensures { (result ≡ slice_order_answer quantity counted out.old)
         × (out.new ≡ slice_order_buffer quantity counted out.old) }

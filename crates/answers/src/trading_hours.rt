@@ -29,6 +29,7 @@ pub struct HoursAnswer {
     pub hours: Hours,
 }
 
+#[tactic(auto, unfolding(crate::specs::Answers::time_answer))]
 pub fn time_answer(res: TimeResult) -> TimeAnswer
     ensures { result ≡ time_answer res }
 {
@@ -44,6 +45,7 @@ pub fn time_answer(res: TimeResult) -> TimeAnswer
     }
 }
 
+#[tactic(auto, unfolding(crate::specs::Answers::session_answer))]
 pub fn session_answer(res: SessionResult) -> SessionAnswer
     ensures { result ≡ session_answer res }
 {
@@ -59,6 +61,7 @@ pub fn session_answer(res: SessionResult) -> SessionAnswer
     }
 }
 
+#[tactic(auto, unfolding(crate::specs::Answers::hours_answer))]
 pub fn hours_answer(res: HoursResult) -> HoursAnswer
     ensures { result ≡ hours_answer res }
 {

@@ -36,6 +36,7 @@ fn optional_time_in_range(time: OptionalTime) -> bool
     }
 }
 
+#[tactic(auto, unfolding(crate::specs::HoursCalls::hours_in_range))]
 fn hours_in_range(hours: TradingHours) -> bool
     ensures { result ≡ hours_in_range hours }
 {
@@ -50,6 +51,7 @@ fn hours_in_range(hours: TradingHours) -> bool
 }
 
 // [errors]: the first of 5 and 7 that applies, or the hours. A call that takes no time has none out of range.
+#[tactic(auto, unfolding(crate::specs::HoursCalls::checked_hours))]
 fn checked_hours(hours: TradingHours, time_in_range: bool) -> HoursResult
     ensures { result ≡ checked_hours hours time_in_range }
 {
@@ -66,6 +68,7 @@ fn checked_hours(hours: TradingHours, time_in_range: bool) -> HoursResult
 }
 
 // [session-new]
+#[tactic(auto, unfolding(crate::specs::HoursCalls::session_new_result))]
 pub fn session_new(start: u32, end: u32) -> SessionResult
     ensures { result ≡ session_new_result start end }
 {
@@ -76,6 +79,7 @@ pub fn session_new(start: u32, end: u32) -> SessionResult
 }
 
 // [contains]
+#[tactic(auto, unfolding(crate::specs::HoursCalls::session_contains_result))]
 pub fn session_contains(session: Session, time: u32) -> BoolResult
     ensures { result ≡ session_contains_result session time }
 {

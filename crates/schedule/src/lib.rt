@@ -33,6 +33,7 @@ pub enum SessionResult {
 
 impl Session {
     // [session-new]: an end before the start means a session over midnight.
+    #[tactic(auto, unfolding(crate::specs::Schedule::session_new))]
     pub fn new(start: u32, end: u32) -> SessionResult
         ensures { result ≡ session_new start end }
     {
@@ -43,6 +44,7 @@ impl Session {
     }
 
     // [contains]
+    #[tactic(auto, unfolding(crate::specs::Schedule::contains))]
     pub fn contains(self, time: u32) -> bool
         ensures { result ≡ contains self time }
     {
@@ -129,6 +131,7 @@ impl TradingHours {
     }
 
     // [with-early-close]
+    #[tactic(auto, unfolding(crate::specs::Schedule::with_early_close))]
     pub fn with_early_close(self, early_close: u32) -> HoursResult
         ensures { result ≡ with_early_close self early_close }
     {
@@ -172,6 +175,7 @@ impl TradingHours {
     }
 
     // [is-open-at]: the regular hours are not tested by `contains`.
+    #[tactic(auto, unfolding(crate::specs::Schedule::is_open_at))]
     pub fn is_open_at(self, time: u32) -> bool
         ensures { result ≡ is_open_at self time }
     {

@@ -22,6 +22,7 @@ fn is_black_friday(year: u32, n: u32) -> bool
 }
 
 // [early-close]: also 3 July before a weekday, and 24 December on one.
+#[tactic(auto, unfolding(crate::specs::MarketHours::is_early_close_day))]
 fn is_early_close_day(date: Date) -> bool
     requires { is_date_of date ≡ true }
     ensures { result ≡ is_early_close_day date }
@@ -33,6 +34,7 @@ fn is_early_close_day(date: Date) -> bool
 }
 
 // [trading-hours], [early-close]: on an early close the after-hours begin with it.
+#[tactic(auto, unfolding(crate::specs::MarketHours::us_trading_hours))]
 pub fn trading_hours(date: Date) -> TradingHours
     requires { is_date_of date ≡ true }
     ensures { result ≡ us_trading_hours date }

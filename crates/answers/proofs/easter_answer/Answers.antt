@@ -1,11 +1,9 @@
--- `answers::easter_answer` meets its contract: no such year, and a day of March or April.
+-- `answers::easter_answer` meets its contract: a day of March or April is the one of the definition.
 use Prim.Native.Nat.{ℕ, ◌+◌, ◌-◌, ◌≤◌}
 use mathlib.Core.Path.{◌≡◌, ap, sym, ◌∙◌}
 use native.Mathlib.Omega.{arith}
-use borrow.Author.Tests.{lt-leb, le-leb}
-use borrow.Author.Rules.{rules}
 use Rattle.gregorian.specs.declared.Date.{Date}
-use Rattle.gregorian.specs.Calendar.{last_year, day_number, date_of}
+use Rattle.gregorian.specs.Calendar.{day_number, date_of}
 use Rattle.utils.specs.declared.OptionalDay.{OptionalDay}
 use Rattle.utils.specs.Weekday.{map_day}
 use Rattle.utils.specs.Easter.{easter, calculate_easter}
@@ -13,14 +11,6 @@ use Rattle.utils.proofs.EasterLaws.{easter-found}
 use Rattle.answers.specs.declared.OptionalDate.{OptionalDate}
 use Rattle.answers.specs.Answers.{optional_date}
 use Rattle.answers.proofs.easter_answer.Goals as goal
-
-pub returns-then-year-lt1 : goal.returns-then-year-lt1
-unfolding optional_date calculate_easter
-returns-then-year-lt1 c = simp (lt-leb 1 c.args.year (omega arith))
-
-pub returns-then-year-gt-LAST_YEAR : goal.returns-then-year-gt-LAST_YEAR
-unfolding optional_date calculate_easter
-returns-then-year-gt-LAST_YEAR c = simp (le-leb 1 c.args.year (omega arith), lt-leb c.args.year last_year (omega arith))
 
 -- the day of March is that of the definition
 march-day : (y k days : ℕ) → easter y ≡ day_number y 3 22 + days → 1 ≤ k → day_number y 3 (k + days) ≡ easter y + k - 22
@@ -30,9 +20,8 @@ march-day y k days e h = omega (arith, e)
 pub returns : goal.returns
 unfolding optional_date
 returns c =
-    let s = c in
-    let a = s.args in
+    let a = c.args in
     let found : calculate_easter a.year ≡ _ = easter-found a.year (omega arith) (omega arith) in
-    let day = march-day a.year a.march-day _ s.easter_days.ensures.0 (omega arith) in
+    let day = march-day a.year a.march_day _ c.easter_days.ensures.0 (omega arith) in
     ap {B = OptionalDate} (λ (t : Date). record { found = 1; date = t }) (c.march_date.ensures ∙ ap date_of day)
-    ∙ ap (λ (o : OptionalDay). optional_date (map_day (λ n. n + a.march-day - 22) o)) (sym found)
+    ∙ ap (λ (o : OptionalDay). optional_date (map_day (λ n. n + a.march_day - 22) o)) (sym found)

@@ -1,7 +1,6 @@
 -- `schedule::trading_hours` meets its contract: each arm of the code.
 use mathlib.Core.Path.{ap, sym, ◌∙◌}
 use native.Mathlib.Omega.{arith}
-use borrow.Author.Rules.{rules}
 use Rattle.gregorian.specs.declared.Date.{Date}
 use Rattle.schedule.specs.declared.TradingHours.{TradingHours}
 use Rattle.schedule.specs.MarketHours.{trading_hours}
@@ -10,23 +9,21 @@ use Rattle.schedule.proofs.trading_hours.Goals as goal
 
 pub returns-in-2 : goal.returns-in-2
 unfolding trading_hours
-returns-in-2 c = by_code _ 2 _ _ c.regular_hours.ensures c.in-2.keys1
+returns-in-2 c = by_code _ 2 _ _ c.regular_hours.ensures c.in-2.is
 
 pub returns-in-3 : goal.returns-in-3
 unfolding trading_hours
-returns-in-3 c = by_code _ 3 _ _ c.regular_hours-in-3.ensures c.in-3.keys2
+returns-in-3 c = by_code _ 3 _ _ c.regular_hours-in-3.ensures c.in-3.is
 
 pub returns-in-4 : goal.returns-in-4
 unfolding trading_hours
-returns-in-4 c = by_code _ 4 _ _ c.regular_hours-in-4.ensures c.in-4.keys3
+returns-in-4 c = by_code _ 4 _ _ c.regular_hours-in-4.ensures c.in-4.is
 
 pub returns-in-0 : goal.returns-in-0
 returns-in-0 c =
-    let a = c.args in
-    c.trading_hours.ensures ∙ ap (λ (f : Date → TradingHours). f a.date) (sym (us-hours a.market c.if-market-lt2.true))
+    c.trading_hours.ensures ∙ ap (λ (f : Date → TradingHours). f c.args.date) (sym (us-hours c.args.market (omega arith)))
 
 pub returns-in_default : goal.returns-in_default
 returns-in_default c =
-    let a = c.args in
     c.regular_hours-in_default.ensures
-    ∙ ap (λ (f : Date → TradingHours). f a.date) (sym (no-hours a.market (omega (arith, c.if-market-lt2.false, c.in_default-1.rest))))
+    ∙ ap (λ (f : Date → TradingHours). f c.args.date) (sym (no-hours c.args.market (omega arith)))
