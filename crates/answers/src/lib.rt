@@ -2,8 +2,8 @@
 // number; an order sliced by the struct that the count call returned.
 #![tactic(auto)]
 
-pub mod adjacent_days;
 pub mod counts;
+pub mod neighbouring_days;
 pub mod optional_dates;
 pub mod records;
 pub mod slices;

@@ -2,7 +2,7 @@
 #![tactic(auto)]
 
 mod calls;
-mod date_ranges;
+mod day_ranges;
 mod hours;
 mod lists;
 mod name;

@@ -1,6 +1,6 @@
 // Rows about month sheets: the room of the buffer and the bytes of the text; the fields of the C struct, in order, and the bytes of
 // the buffer.
-use crate::date_ranges::{LARGEST_ROOM, count_answer, push_bytes};
+use crate::day_ranges::{LARGEST_ROOM, count_answer, push_bytes};
 use crate::numbers::{CAPACITY, Numbers};
 use trading_calendar::sheets::tc_month_sheet;
 

@@ -1,9 +1,9 @@
 // The library under the calls that a host makes. Every call takes every number and every text, so none has a `requires`.
 #![tactic(auto)]
 
-pub mod adjacent_days;
 pub mod common_days;
-pub mod date_ranges;
+pub mod day_ranges;
+pub mod neighbouring_days;
 pub mod sheets;
 pub mod slices;
 pub mod trading_hours;

@@ -1,9 +1,9 @@
 // The calls that a host in C or Rust makes, under their C names: each calls that of `trading_calendar` and states its contract again.
 #![tactic(auto)]
 
-mod adjacent_days;
 mod common_days;
-mod date_ranges;
+mod day_ranges;
+mod neighbouring_days;
 mod sheets;
 mod slices;
 mod trading_hours;

@@ -3,7 +3,7 @@ ghost use Rattle.std.specs.Prelude.{◌≡◌};
 ghost use Rattle.range_calls.specs.RangeCalls.{next_trading_day_result, previous_trading_day_result};
 ghost use Rattle.answers.specs.Answers.{trading_day_answer};
 
-use answers::adjacent_days::TradingDayAnswer;
+use answers::neighbouring_days::TradingDayAnswer;
 
 // [next]: in any year; or the first of errors 8, 5 and 6 that applies.
 #[unsafe(no_mangle)]
@@ -15,7 +15,7 @@ pub extern "C" fn tc_next_trading_day(
 ) -> TradingDayAnswer
     ensures { result ≡ trading_day_answer (next_trading_day_result market year month day) }
 {
-    trading_calendar::adjacent_days::tc_next_trading_day(market, year, month, day)
+    trading_calendar::neighbouring_days::tc_next_trading_day(market, year, month, day)
 }
 
 // [previous]: in any year; or the first of errors 8, 5 and 6 that applies.
@@ -28,5 +28,5 @@ pub extern "C" fn tc_previous_trading_day(
 ) -> TradingDayAnswer
     ensures { result ≡ trading_day_answer (previous_trading_day_result market year month day) }
 {
-    trading_calendar::adjacent_days::tc_previous_trading_day(market, year, month, day)
+    trading_calendar::neighbouring_days::tc_previous_trading_day(market, year, month, day)
 }
