@@ -5,13 +5,13 @@ mod input;
 mod output;
 
 use input::INPUT_LENGTH;
-use libc::{STDIN_FILENO, STDOUT_FILENO};
 use output::OUTPUT_LENGTH;
+use std::io;
 
-fn main() {
+fn main(rt: HostRuntime) -> io::Result<()> {
     let mut buffer = [0; INPUT_LENGTH];
-    let n = input::read(STDIN_FILENO, &mut buffer);
+    let n = input::read(&mut rt.stdin(), &mut buffer);
     let mut out = [0; OUTPUT_LENGTH];
     let count = output::of_input(&buffer, n, &mut out);
-    io::write_all(STDOUT_FILENO, &out[..count]);
+    rt.write_all(&out[..count])
 }

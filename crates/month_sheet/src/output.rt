@@ -1,6 +1,5 @@
 // What is printed.
-ghost use Rattle.std.specs.Prelude.{◌≡◌, List, ℕ, ◌≤◌, length};
-ghost use Rattle.io.specs.Counts.{IsPrefixLen};
+ghost use Rattle.std.specs.Prelude.{◌≡◌, List, ℕ, ◌≤◌, length, take};
 ghost use Rattle.buffers.specs.Buffers.{overwrite};
 ghost use Rattle.month_sheet.specs.Printed.{printed, ReadOf};
 
@@ -29,7 +28,7 @@ pub fn of_input(buffer: &[u8; INPUT_LENGTH], n: usize, out: &mut [u8; OUTPUT_LEN
     requires { n ≤ length buffer.now }
     ensures by_index { (input : List ℕ) → ReadOf input buffer.now n
         → (result ≡ length (printed input)) × (out.new ≡ overwrite (printed input) out.old) }
-    ensures prefix_len { IsPrefixLen result out.new }
+    ensures prefix_len { (result ≤ length out.new) × (result ≡ length (take result out.new)) }
 {
     let text: &[u8] = buffer;
     of_text(&text[..n], out)

@@ -20,6 +20,7 @@ pub enum SliceResult {
 }
 
 // Errors 11 and 9, or the number of days.
+#[tactic(auto, unfolding(crate::specs::Slices::slice_days))]
 fn slice_days(count: u32, room: usize) -> CountResult
     ensures { result ≡ slice_days count room }
 {

@@ -30,6 +30,7 @@ pub enum TradingDayResult {
 }
 
 // [distance]
+#[tactic(auto, unfolding(crate::specs::RangeCalls::distance_of))]
 fn distance(n: u32, m: u32) -> u32
     ensures { result ≡ distance_of n m }
 {

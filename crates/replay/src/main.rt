@@ -14,32 +14,29 @@ mod sheets;
 mod tally;
 
 use reader::Reader;
+use std::rt::Files;
+use std::{fs, io};
 
 // Prints the file's name, the lines that differ or are not understood, and the counts.
-fn replay(path: &[u8]) {
-    report::write(path);
-    report::write(b"\n");
-    let fd = os::open_read(path);
-    if fd < 0 {
-        report::write(b"cannot be opened\n");
-        return;
-    }
-    let read = Reader::new().read_all(fd);
-    libc::close(fd);
+fn replay(rt: &(impl Files + Print), path: &str) -> io::Result<()> {
+    println!(rt; "{path}")?;
+    let Ok(mut file) = fs::open(rt, path) else {
+        return println!(rt; "cannot be opened");
+    };
+    let read = Reader::new().read_all(rt, &mut file)?;
     if read.is_failed {
-        report::write(b"cannot be read\n");
-        return;
+        return println!(rt; "cannot be read");
     }
-    report::write_tally(read.finish());
+    report::write_tally(rt, read.finish(rt)?)
 }
 
-fn main() {
-    replay(b"easter.txt");
-    replay(b"weekdays.txt");
-    replay(b"holidays.txt");
-    replay(b"hours.txt");
-    replay(b"neighbours.txt");
-    replay(b"ranges.txt");
-    replay(b"sheets.txt");
-    replay(b"malformed.txt");
+fn main(rt: HostRuntime) -> io::Result<()> {
+    replay(&rt, "easter.txt")?;
+    replay(&rt, "weekdays.txt")?;
+    replay(&rt, "holidays.txt")?;
+    replay(&rt, "hours.txt")?;
+    replay(&rt, "neighbours.txt")?;
+    replay(&rt, "ranges.txt")?;
+    replay(&rt, "sheets.txt")?;
+    replay(&rt, "malformed.txt")
 }

@@ -45,6 +45,6 @@ impl Name {
         }
         let a = self.bytes;
         let b = other.bytes;
-        check::same(&a, &b)
+        a == b
     }
 }

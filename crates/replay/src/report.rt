@@ -2,65 +2,54 @@
 use crate::calls;
 use crate::calls::KINDS;
 use crate::tally::Tally;
-use libc::STDOUT_FILENO;
-
-pub fn write(text: &[u8]) {
-    io::write_all(STDOUT_FILENO, text);
-}
+use std::io;
 
 // The first length bytes of the text.
-fn write_first(text: &[u8], length: usize) {
+fn write_first(rt: &impl Print, text: &[u8], length: usize) -> io::Result<()> {
     if length <= text.len() {
-        write(&text[0..length]);
+        rt.write_all(&text[0..length])
+    } else {
+        Ok(())
     }
 }
 
-fn write_name(kind: usize) {
+fn write_name(rt: &impl Print, kind: usize) -> io::Result<()> {
     let name = calls::name(kind);
     let bytes = name.bytes;
-    write_first(&bytes, name.length);
+    write_first(rt, &bytes, name.length)
 }
 
-// The text, and then the number in decimal.
-fn write_number(text: &[u8], number: u64) {
-    write(text);
-    io::print_decimal(STDOUT_FILENO, number);
+pub fn write_difference(rt: &impl Print, kind: usize, line: u64) -> io::Result<()> {
+    write_name(rt, kind)?;
+    println!(rt; ": line {line} differs")
 }
 
-pub fn write_difference(kind: usize, line: u64) {
-    write_name(kind);
-    write_number(b": line ", line);
-    write(b" differs\n");
+pub fn write_not_understood(rt: &impl Print, line: u64) -> io::Result<()> {
+    println!(rt; "line {line} is not understood")
 }
 
-pub fn write_not_understood(line: u64) {
-    write_number(b"line ", line);
-    write(b" is not understood\n");
-}
-
-fn write_counts(kind: usize, compared: u64, differ: u64) {
+fn write_counts(rt: &impl Print, kind: usize, compared: u64, differ: u64) -> io::Result<()> {
     if compared == 0 {
-        return;
+        return Ok(());
     }
-    write_name(kind);
-    write_number(b": ", compared);
-    write_number(b" compared, ", differ);
-    write(b" differ\n");
+    write_name(rt, kind)?;
+    println!(rt; ": {compared} compared, {differ} differ")
 }
 
 // A line for each kind of call that the file has rows of.
-fn write_kinds(tally: Tally) {
+fn write_kinds(rt: &impl Print, tally: Tally) -> io::Result<()> {
     let compared = tally.compared;
     let differ = tally.differ;
     let mut kind = 0;
     while kind < KINDS {
-        write_counts(kind, compared[kind], differ[kind]);
+        write_counts(rt, kind, compared[kind], differ[kind])?;
         kind += 1;
     }
+    Ok(())
 }
 
-pub fn write_tally(tally: Tally) {
-    write_kinds(tally);
-    write_number(b"not understood: ", tally.not_understood);
-    write(b"\n");
+pub fn write_tally(rt: &impl Print, tally: Tally) -> io::Result<()> {
+    write_kinds(rt, tally)?;
+    let not_understood = tally.not_understood;
+    println!(rt; "not understood: {not_understood}")
 }

@@ -7,8 +7,7 @@ use gregorian::Date;
 
 // [common-day]: a day from the start to the end, both included, on which every market of the set trades, or none exactly if there is no
 // such day; or the first of errors 12, 5 and 1 that applies. Which of several days it is, the contract leaves free, and nothing else.
-#[unsafe(no_mangle)]
-pub extern "C" fn tc_common_trading_day(
+pub fn tc_common_trading_day(
     markets: u8,
     start_year: u32,
     start_month: u32,

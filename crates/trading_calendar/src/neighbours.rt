@@ -6,8 +6,7 @@ ghost use Rattle.answers.specs.Answers.{trading_day_answer};
 use answers::neighbours::{TradingDayAnswer, trading_day_answer};
 
 // [next]: in any year; or the first of errors 8, 5 and 6 that applies.
-#[unsafe(no_mangle)]
-pub extern "C" fn tc_next_trading_day(
+pub fn tc_next_trading_day(
     market: u32,
     year: u32,
     month: u32,
@@ -19,8 +18,7 @@ pub extern "C" fn tc_next_trading_day(
 }
 
 // [previous]: in any year; or the first of errors 8, 5 and 6 that applies.
-#[unsafe(no_mangle)]
-pub extern "C" fn tc_previous_trading_day(
+pub fn tc_previous_trading_day(
     market: u32,
     year: u32,
     month: u32,

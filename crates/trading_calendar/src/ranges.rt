@@ -7,8 +7,7 @@ use answers::counts::{CountAnswer, count_answer};
 
 // [month-list]: how many days were written to the buffer, one byte for each, or the first of errors 8, 1, 2 and 9 that applies, with
 // which nothing is written [error-writes-nothing].
-#[unsafe(no_mangle)]
-pub extern "C" fn tc_trading_days_in_month(
+pub fn tc_trading_days_in_month(
     market: u32,
     year: u32,
     month: u32,
@@ -21,8 +20,7 @@ pub extern "C" fn tc_trading_days_in_month(
 }
 
 // [count]: how many days trade from the start to the end, both included, or the first of errors 8, 5 and 1 that applies.
-#[unsafe(no_mangle)]
-pub extern "C" fn tc_count_trading_days(
+pub fn tc_count_trading_days(
     market: u32,
     start_year: u32,
     start_month: u32,

@@ -7,8 +7,7 @@ use answers::counts::{CountAnswer, count_answer};
 
 // [sheet-output], [sheet-return]: how many bytes of the sheet were written to the buffer, or the first of errors 10, 8, 1, 2 and 9 that
 // applies, with which nothing is written [error-writes-nothing].
-#[unsafe(no_mangle)]
-pub extern "C" fn tc_month_sheet(text: &[u8], out: &mut [u8]) -> CountAnswer
+pub fn tc_month_sheet(text: &[u8], out: &mut [u8]) -> CountAnswer
     ensures { (result ≡ count_answer (month_sheet_result text.now out.old))
         × (out.new ≡ month_sheet_buffer text.now out.old) }
 {

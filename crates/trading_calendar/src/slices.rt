@@ -9,8 +9,7 @@ use answers::slices::{SliceAnswer, slice_order_answer};
 
 // [slice-order]: over how many days, the shares of each and the remainder, with the slices at the start of the buffer, one number for
 // each day; or the first of errors 8, 5, 1, 11 and 9 that applies, with which nothing is written [error-writes-nothing].
-#[unsafe(no_mangle)]
-pub extern "C" fn tc_slice_order(
+pub fn tc_slice_order(
     market: u32,
     quantity: u32,
     start_year: u32,

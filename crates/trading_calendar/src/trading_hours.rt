@@ -16,40 +16,35 @@ use gregorian::Date;
 use schedule::Session;
 
 // [trading-hours]: the hours of the date, in any year, or the first of errors 8 and 5 that applies.
-#[unsafe(no_mangle)]
-pub extern "C" fn tc_trading_hours(market: u32, year: u32, month: u32, day: u32) -> HoursAnswer
+pub fn tc_trading_hours(market: u32, year: u32, month: u32, day: u32) -> HoursAnswer
     ensures { result ≡ hours_answer (trading_hours_result market year month day) }
 {
     hours_answer(calendar::trading_hours(market, year, month, day))
 }
 
 // [is-open]: yes or no, or the first of errors 8, 5, 7 and 1 that applies.
-#[unsafe(no_mangle)]
-pub extern "C" fn tc_is_open(market: u32, year: u32, month: u32, day: u32, time: u32) -> BoolAnswer
+pub fn tc_is_open(market: u32, year: u32, month: u32, day: u32, time: u32) -> BoolAnswer
     ensures { result ≡ bool_answer (is_open_result market year month day time) }
 {
     bool_answer(calendar::is_open(market, year, month, day, time))
 }
 
 // [session-new]: the session, or the first of errors 7 and 3 that applies.
-#[unsafe(no_mangle)]
-pub extern "C" fn tc_session_new(start: u32, end: u32) -> SessionAnswer
+pub fn tc_session_new(start: u32, end: u32) -> SessionAnswer
     ensures { result ≡ session_answer (session_new_result start end) }
 {
     session_answer(hours_calls::session_new(start, end))
 }
 
 // [contains]: yes or no, or error 7.
-#[unsafe(no_mangle)]
-pub extern "C" fn tc_session_contains(session: Session, time: u32) -> BoolAnswer
+pub fn tc_session_contains(session: Session, time: u32) -> BoolAnswer
     ensures { result ≡ bool_answer (session_contains_result session time) }
 {
     bool_answer(hours_calls::session_contains(session, time))
 }
 
 // [hours-new]: the hours, without an early close, or the first of errors 5 and 7 that applies.
-#[unsafe(no_mangle)]
-pub extern "C" fn tc_trading_hours_new(
+pub fn tc_trading_hours_new(
     year: u32,
     month: u32,
     day: u32,
@@ -71,32 +66,28 @@ pub extern "C" fn tc_trading_hours_new(
 }
 
 // [with-early-close]: the hours with the early close, or the first of errors 5, 7 and 4 that applies.
-#[unsafe(no_mangle)]
-pub extern "C" fn tc_with_early_close(hours: Hours, time: u32) -> HoursAnswer
+pub fn tc_with_early_close(hours: Hours, time: u32) -> HoursAnswer
     ensures { result ≡ hours_answer (with_early_close_result (trading_hours_of hours) time) }
 {
     hours_answer(hours_calls::with_early_close(trading_hours_of(hours), time))
 }
 
 // [is-early-close]: yes or no, or the first of errors 5 and 7 that applies.
-#[unsafe(no_mangle)]
-pub extern "C" fn tc_is_early_close(hours: Hours) -> BoolAnswer
+pub fn tc_is_early_close(hours: Hours) -> BoolAnswer
     ensures { result ≡ bool_answer (is_early_close_result (trading_hours_of hours)) }
 {
     bool_answer(hours_calls::is_early_close(trading_hours_of(hours)))
 }
 
 // [market-close]: the time, or the first of errors 5 and 7 that applies.
-#[unsafe(no_mangle)]
-pub extern "C" fn tc_market_close(hours: Hours) -> TimeAnswer
+pub fn tc_market_close(hours: Hours) -> TimeAnswer
     ensures { result ≡ time_answer (market_close_result (trading_hours_of hours)) }
 {
     time_answer(hours_calls::market_close(trading_hours_of(hours)))
 }
 
 // [is-open-at]: yes or no, or the first of errors 5 and 7 that applies.
-#[unsafe(no_mangle)]
-pub extern "C" fn tc_is_open_at(hours: Hours, time: u32) -> BoolAnswer
+pub fn tc_is_open_at(hours: Hours, time: u32) -> BoolAnswer
     ensures { result ≡ bool_answer (is_open_at_result (trading_hours_of hours) time) }
 {
     bool_answer(hours_calls::is_open_at(trading_hours_of(hours), time))

@@ -1,16 +1,12 @@
 -- `orders::write_slices` meets its contract: one more for the first days, and then the shares per day.
-use Prim.Native.Nat.{ℕ, ◌+◌, ◌-◌, ◌≤◌, ◌<◌}
-use mathlib.Core.Path.{◌≡◌, refl, sym, ap, ◌∙◌}
-use mathlib.Core.Logic.{inl, inr}
-use mathlib.Core.List.{List, [], ◌++◌}
-use lib.ListN.{length, replicate, length-replicate}
-use native.Mathlib.Omega.{arith}
-use borrow.Author.Rules.{rules}
+use Rattle.std.proofs.Common.{ℕ, List, [], ◌≡◌, ◌+◌, ◌-◌, ◌≤◌, ◌<◌, ◌++◌, length, refl, sym, ap, ◌∙◌, arith}
+use Rattle.std.proofs.Math.ListN.{replicate, length-replicate}
 use borrow.Rule.Slice.PartMut.{mid_of, put_mid, mid_len}
 use Rattle.buffers.specs.Buffers.{overwrite}
 use Rattle.buffers.proofs.BufferLaws.{overwrite-none, overwrite-part, overwrite-length}
 use Rattle.orders.proofs.SliceLaws.{slices-are}
 use Rattle.orders.proofs.write_slices.Goals as goal
+use Rattle.orders.proofs.write_slices.Goals.{then-remainder-gt0, else-remainder-gt0}
 
 -- A part of k entries, `&mut out[a..e]`, was filled right after what was written.
 part_filled : (entries part buffer out : List ℕ) (a e k value : ℕ) → out ≡ overwrite entries buffer → length entries ≡ a → a + k ≡ e → e ≤ length buffer
@@ -21,21 +17,12 @@ part_filled entries part buffer out a e k value q n s l p =
     let filled : part ≡ replicate k value = p ∙ ap (λ (i : ℕ). replicate i value) (mid_len a e out (omega (arith, long)) ∙ as_many) in
     rw (filled, q) (overwrite-part entries (replicate k value) buffer a e n (length-replicate k value ∙ sym as_many))
 
--- what the first days carry
-more-is : (c : goal.Joined-remainder-gt0) → (let a = c.args in 0 < a.remainder → c.if-remainder-gt0.more ≡ a.per-day + 1)
-more-is c h = elim c.if-remainder-gt0.branch [ inl w ↦ w.1 | inr w ↦ absurd (let l = w.0.left in omega (arith, l)) ]
-
-pub overflow_add-more : goal.overflow_add-more
-overflow_add-more c = omega arith
-
 pub returns : goal.returns
 returns c =
-    let second = c in
-    let first = second.before.before.before.before in
-    let j = first.before.before in
-    let s = j.before.before in
-    let a = s.args in
-    let more = j.if1.more in
-    let out = part_filled [] _ a.out.now _ 0 a.remainder a.remainder more (sym (overwrite-none _)) refl (omega arith) (omega (arith, s.requires)) first.fill.ensures in
-    part_filled (replicate a.remainder more) _ a.out.now _ a.remainder a.count (a.count - a.remainder) a.per-day out (length-replicate a.remainder more) (omega (arith, s.requires)) s.requires.1 second.fill-2.ensures
-    ∙ ap (λ (l : List ℕ). overwrite l a.out.now) (slices-are a.per-day a.remainder a.count more (omega (arith, s.requires)) (more-is j))
+    let a = c.args in
+    let more = c.if-remainder-gt0.more in
+    let more-is : 0 < a.remainder → more ≡ a.per_day + 1 =
+    λ h. elim c.if-remainder-gt0.branch [ then-remainder-gt0 w ↦ w.more-is | else-remainder-gt0 w ↦ absurd (omega arith) ] in
+    let out = part_filled [] _ a.out.now _ 0 a.remainder a.remainder more (sym (overwrite-none _)) refl (omega arith) (omega (arith, c.requires)) c.fill.ensures in
+    part_filled (replicate a.remainder more) _ a.out.now _ a.remainder a.count (a.count - a.remainder) a.per_day out (length-replicate a.remainder more) (omega (arith, c.requires)) c.requires.1 c.fill-2.ensures
+    ∙ ap (λ (l : List ℕ). overwrite l a.out.now) (slices-are a.per_day a.remainder a.count more (omega (arith, c.requires)) more-is)

@@ -1,24 +1,11 @@
 -- `range_calls::previous_trading_day` meets its contract: the day past the checks is that of a date, and an error stays.
-use mathlib.Core.Path.{◌≡◌, sym, ◌∙◌}
-use borrow.Author.Rules.{rules}
-use Rattle.checks.specs.declared.DayResult.{DayResult}
-use Rattle.checks.specs.Checks.{checked_day}
-use Rattle.checks.proofs.CheckLaws.{past-day-error, day-checked}
+use Rattle.std.proofs.Common.{sym}
+use Rattle.checks.proofs.CheckLaws.{day-checked}
 use Rattle.range_calls.proofs.RangeLaws.{neighbour-is}
 use Rattle.range_calls.proofs.previous_trading_day.Goals as goal
 
--- the day past the checks
--- TODO In-Ok-2 is no asked place
-day : (c : goal.In-Ok-2) → (let a = c.args in checked_day a.market a.year a.month a.day ≡ DayResult.Ok c.n-1.given.0.0)
-day c = sym c.checked_day.ensures ∙ c.n-1.given.1
-
 pub previous_trading_day-requires : goal.previous_trading_day-requires
-previous_trading_day-requires c = (day-checked _ _ _ _ _ (day c.before)).same
+previous_trading_day-requires c = (day-checked _ _ _ _ _ (sym c.in-Ok.ensures)).same
 
 pub returns-in-Ok : goal.returns-in-Ok
-returns-in-Ok c =
-    let s = c in
-    neighbour-is _ _ _ _ _ s.n-1.given.0.0 _ _ (sym (day s)) c.previous_trading_day.ensures c.trading_day_result.ensures
-
-pub returns-in-Err : goal.returns-in-Err
-returns-in-Err c = past-day-error _ _ _ _ (sym c.e-1.given.1 ∙ c.checked_day.ensures)
+returns-in-Ok c = neighbour-is _ _ _ _ _ _ _ _ c.in-Ok.ensures c.previous_trading_day.ensures c.trading_day_result.ensures

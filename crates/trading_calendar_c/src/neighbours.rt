@@ -1,0 +1,32 @@
+// The calls about the neighbouring trading days.
+ghost use Rattle.std.specs.Prelude.{◌≡◌};
+ghost use Rattle.range_calls.specs.RangeCalls.{next_trading_day_result, previous_trading_day_result};
+ghost use Rattle.answers.specs.Answers.{trading_day_answer};
+
+use answers::neighbours::TradingDayAnswer;
+
+// [next]: in any year; or the first of errors 8, 5 and 6 that applies.
+#[unsafe(no_mangle)]
+pub extern "C" fn tc_next_trading_day(
+    market: u32,
+    year: u32,
+    month: u32,
+    day: u32,
+) -> TradingDayAnswer
+    ensures { result ≡ trading_day_answer (next_trading_day_result market year month day) }
+{
+    trading_calendar::neighbours::tc_next_trading_day(market, year, month, day)
+}
+
+// [previous]: in any year; or the first of errors 8, 5 and 6 that applies.
+#[unsafe(no_mangle)]
+pub extern "C" fn tc_previous_trading_day(
+    market: u32,
+    year: u32,
+    month: u32,
+    day: u32,
+) -> TradingDayAnswer
+    ensures { result ≡ trading_day_answer (previous_trading_day_result market year month day) }
+{
+    trading_calendar::neighbours::tc_previous_trading_day(market, year, month, day)
+}

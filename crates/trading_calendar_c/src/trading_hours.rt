@@ -1,0 +1,104 @@
+// The calls about hours that a host makes.
+ghost use Rattle.std.specs.Prelude.{◌≡◌};
+ghost use Rattle.gregorian.specs.Calendar.{date};
+ghost use Rattle.calendar.specs.CalendarCalls.{trading_hours_result, is_open_result};
+ghost use Rattle.hours_calls.specs.HoursCalls.{session_new_result, session_contains_result, trading_hours_new_result, with_early_close_result};
+ghost use Rattle.hours_calls.specs.HoursCalls.{is_early_close_result, market_close_result, is_open_at_result};
+ghost use Rattle.answers.specs.Records.{optional_session, trading_hours_of};
+ghost use Rattle.answers.specs.Answers.{bool_answer, time_answer, session_answer, hours_answer};
+
+use answers::BoolAnswer;
+use answers::records::Hours;
+use answers::trading_hours::{HoursAnswer, SessionAnswer, TimeAnswer};
+use schedule::Session;
+
+// [trading-hours]: the hours of the date, in any year, or the first of errors 8 and 5 that applies.
+#[unsafe(no_mangle)]
+pub extern "C" fn tc_trading_hours(market: u32, year: u32, month: u32, day: u32) -> HoursAnswer
+    ensures { result ≡ hours_answer (trading_hours_result market year month day) }
+{
+    trading_calendar::trading_hours::tc_trading_hours(market, year, month, day)
+}
+
+// [is-open]: yes or no, or the first of errors 8, 5, 7 and 1 that applies.
+#[unsafe(no_mangle)]
+pub extern "C" fn tc_is_open(market: u32, year: u32, month: u32, day: u32, time: u32) -> BoolAnswer
+    ensures { result ≡ bool_answer (is_open_result market year month day time) }
+{
+    trading_calendar::trading_hours::tc_is_open(market, year, month, day, time)
+}
+
+// [session-new]: the session, or the first of errors 7 and 3 that applies.
+#[unsafe(no_mangle)]
+pub extern "C" fn tc_session_new(start: u32, end: u32) -> SessionAnswer
+    ensures { result ≡ session_answer (session_new_result start end) }
+{
+    trading_calendar::trading_hours::tc_session_new(start, end)
+}
+
+// [contains]: yes or no, or error 7.
+#[unsafe(no_mangle)]
+pub extern "C" fn tc_session_contains(session: Session, time: u32) -> BoolAnswer
+    ensures { result ≡ bool_answer (session_contains_result session time) }
+{
+    trading_calendar::trading_hours::tc_session_contains(session, time)
+}
+
+// [hours-new]: the hours, without an early close, or the first of errors 5 and 7 that applies.
+#[unsafe(no_mangle)]
+pub extern "C" fn tc_trading_hours_new(
+    year: u32,
+    month: u32,
+    day: u32,
+    regular: Session,
+    has_pre_market: u32,
+    pre_market: Session,
+    has_after_hours: u32,
+    after_hours: Session,
+) -> HoursAnswer
+    ensures { result ≡ hours_answer (trading_hours_new_result (date year month day) regular
+        (optional_session has_pre_market pre_market) (optional_session has_after_hours after_hours)) }
+{
+    trading_calendar::trading_hours::tc_trading_hours_new(
+        year,
+        month,
+        day,
+        regular,
+        has_pre_market,
+        pre_market,
+        has_after_hours,
+        after_hours,
+    )
+}
+
+// [with-early-close]: the hours with the early close, or the first of errors 5, 7 and 4 that applies.
+#[unsafe(no_mangle)]
+pub extern "C" fn tc_with_early_close(hours: Hours, time: u32) -> HoursAnswer
+    ensures { result ≡ hours_answer (with_early_close_result (trading_hours_of hours) time) }
+{
+    trading_calendar::trading_hours::tc_with_early_close(hours, time)
+}
+
+// [is-early-close]: yes or no, or the first of errors 5 and 7 that applies.
+#[unsafe(no_mangle)]
+pub extern "C" fn tc_is_early_close(hours: Hours) -> BoolAnswer
+    ensures { result ≡ bool_answer (is_early_close_result (trading_hours_of hours)) }
+{
+    trading_calendar::trading_hours::tc_is_early_close(hours)
+}
+
+// [market-close]: the time, or the first of errors 5 and 7 that applies.
+#[unsafe(no_mangle)]
+pub extern "C" fn tc_market_close(hours: Hours) -> TimeAnswer
+    ensures { result ≡ time_answer (market_close_result (trading_hours_of hours)) }
+{
+    trading_calendar::trading_hours::tc_market_close(hours)
+}
+
+// [is-open-at]: yes or no, or the first of errors 5 and 7 that applies.
+#[unsafe(no_mangle)]
+pub extern "C" fn tc_is_open_at(hours: Hours, time: u32) -> BoolAnswer
+    ensures { result ≡ bool_answer (is_open_at_result (trading_hours_of hours) time) }
+{
+    trading_calendar::trading_hours::tc_is_open_at(hours, time)
+}
