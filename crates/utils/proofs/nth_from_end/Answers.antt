@@ -31,30 +31,28 @@ length-is y m n h e = let x = (is-date y m 1 h).exists in (e, month-low y m x.m-
 
 -- the last four
 pub overflow_sub-length : goal.overflow_sub-length
-overflow_sub-length c = omega (arith, c.if-k-lt4.true, length-is _ _ _ c.requires.0 c.days_in_month-length.ensures)
+overflow_sub-length c = omega (arith, length-is _ _ _ c.requires.0 c.days_in_month-length.ensures)
 
 pub weekday_up_to-requires : goal.weekday_up_to-requires
 weekday_up_to-requires c =
     let l = length-is _ _ _ c.requires.0 c.days_in_month-length.ensures in
     let p = c.requires in
-    let k = c.if-k-lt4.true in
-    (in-month _ _ _ p.0 (omega (arith, k, l)) (omega (arith, l)), p.1, omega (arith, k, l))
+    (in-month _ _ _ p.0 (omega (arith, l)) (omega (arith, l)), p.1, omega (arith, l))
 
 pub returns-then-k-lt4 : goal.returns-then-k-lt4
 returns-then-k-lt4 c =
     let a = c.args in
     let l = length-is _ _ _ c.requires.0 c.days_in_month-length.ensures in
     let h : HasLast a.year a.month a.weekday = record { is-month = c.requires.0; is-weekday = c.requires.1; has-next = sym c.has_next_month.ensures ∙ c.if-not-has_next_month.false } in
-    let k = c.if-k-lt4.true in
     let r = c.weekday_up_to.ensures in
     let up_to_lem = r.0 ∙ ap (λ (n : ℕ). last_up_to a.weekday (day_number a.year a.month (n - 7 * a.k))) l.0 in
-    let day = up_to_lem ∙ week-from-end a.year a.month a.weekday a.k h.is-weekday (omega (arith, l, k)) in (
-      simp (lt-ltb a.k most_nth (omega (arith, k))) (ap Day day ∙ sym (end-early a.year a.month a.weekday a.k h (omega (arith, k)))),
-      in-month _ _ _ h.is-month (omega (arith, r, l, k)) (omega (arith, r, l)),
+    let day = up_to_lem ∙ week-from-end a.year a.month a.weekday a.k h.is-weekday (omega (arith, l)) in (
+      simp (lt-ltb a.k most_nth (omega arith)) (ap Day day ∙ sym (end-early a.year a.month a.weekday a.k h (omega arith))),
+      in-month _ _ _ h.is-month (omega (arith, r, l)) (omega (arith, r, l)),
     )
 
 pub returns-then-k-ge-MOST_NTH : goal.returns-then-k-ge-MOST_NTH
-returns-then-k-ge-MOST_NTH c = (simp (le-ltb c.args.k most_nth (omega (arith, c.if-k-ge-MOST_NTH.true))), tt)
+returns-then-k-ge-MOST_NTH c = (simp (le-ltb c.args.k most_nth (omega arith)), tt)
 
 -- the others
 pub weekday_up_to-last-requires : goal.weekday_up_to-last-requires
@@ -75,7 +73,7 @@ target_is c =
     let a = c.args in
     let has-next = sym c.has_next_month.ensures ∙ c.if-not-has_next_month.false in
     let last = c.day_number-last_day.ensures ∙ c.weekday_up_to-last.ensures.0 ∙ ap (λ (n : ℕ). last_up_to a.weekday (day_number a.year a.month n)) c.days_in_month-length.ensures in
-    simp (lt-ltb a.k most_nth (omega (arith, c.if-k-ge-MOST_NTH.false)), last_found a.year a.month a.weekday c.requires.0 c.requires.1 has-next)
+    simp (lt-ltb a.k most_nth (omega arith), last_found a.year a.month a.weekday c.requires.0 c.requires.1 has-next)
     (c.weeks_before.ensures ∙ ap (weeks_before a.month a.k) last)
 
 pub by_number-requires : goal.by_number-requires

@@ -22,22 +22,22 @@ returns-then-n-lt1 c =
 pub weekday_up_to-requires : goal.weekday_up_to-requires
 weekday_up_to-requires c =
     let p = c.requires in
-    (early-date _ _ _ p.0 (omega (arith, c.if-n-lt1.false)) (omega (arith, c.if-n-lt5.true)), p.1, omega (arith, c.if-n-lt1.false))
+    (early-date _ _ _ p.0 (omega arith) (omega arith), p.1, omega arith)
 
 pub returns-then-n-lt5 : goal.returns-then-n-lt5
 returns-then-n-lt5 c =
     let a = c.args in
     let p = c.requires in
     let r = c.weekday_up_to.ensures in
-    let low : 1 ≤ a.n = omega (arith, c.if-n-lt1.false) in
-    let high : a.n ≤ 4 = omega (arith, c.if-n-lt5.true) in
+    let low : 1 ≤ a.n = omega arith in
+    let high : a.n ≤ 4 = omega arith in
     let day = r.0 ∙ week-from-start a.year a.month a.weekday a.n p.1 low in (
       simp (le-leb a.n most_nth (omega arith)) (ap Day day ∙ sym (nth-early a.year a.month a.weekday a.n p.0 p.1 low high)),
       early-date _ _ _ p.0 (omega (arith, r.2, low)) (omega (arith, r.1, high)),
     )
 
 pub returns-then-n-gt-MOST_NTH : goal.returns-then-n-gt-MOST_NTH
-returns-then-n-gt-MOST_NTH c = (simp (lt-leb c.args.n most_nth (omega (arith, c.if-n-gt-MOST_NTH.true))), tt)
+returns-then-n-gt-MOST_NTH c = (simp (lt-leb c.args.n most_nth (omega arith)), tt)
 
 -- the others: the first is one of the first seven days,
 pub weekday_up_to-first-requires : goal.weekday_up_to-first-requires
@@ -61,10 +61,10 @@ unfolding nth_from_start target_day
 target_is c =
     let a = c.args in
     let p = c.requires in
-    let low : 1 ≤ a.n = omega (arith, c.if-n-lt1.false) in
+    let low : 1 ≤ a.n = omega arith in
     let first = c.weekday_up_to-first.ensures.0 ∙ week-from-start a.year a.month a.weekday 1 p.1 (omega arith) in
     let target : c.day_number.result + 7 * (a.n - 1) ≡ target_day a.year a.month a.weekday a.n = omega (arith, c.day_number.ensures, first) in
-    simp (le-leb a.n most_nth (omega (arith, c.if-n-gt-MOST_NTH.false)), p.0, le-leb _ _ p.1, le-leb 1 a.n low) (c.if_in_month.ensures ∙ ap (if_in_month _) target)
+    simp (le-leb a.n most_nth (omega arith), p.0, le-leb _ _ p.1, le-leb 1 a.n low) (c.if_in_month.ensures ∙ ap (if_in_month _) target)
 
 pub by_number-requires : goal.by_number-requires
 by_number-requires c =

@@ -25,14 +25,14 @@ unfolding month_length
 is-date y l h = date-by y 3 22 (l, h) (omega arith, omega arith) (omega arith, omega arith)
 
 pub day_number-requires : goal.day_number-requires
-day_number-requires c = is-date c.args.year c.if-year-lt1.false c.if-year-gt-LAST_YEAR.false
+day_number-requires c = is-date c.args.year (omega arith) (omega arith)
 
 pub overflow_add-easter : goal.overflow_add-easter
 overflow_add-easter c =
-    let d = is-date c.args.year c.if-year-lt1.false c.if-year-gt-LAST_YEAR.false in
+    let d = is-date c.args.year (omega arith) (omega arith) in
     record { fits = omega (arith, c.day_number.ensures, number-range _ 3 22 d, c.easter_days.ensures.1) }
 
 pub returns : goal.returns
 returns c =
     let day = ap (λ n. n + c.easter_days.result) c.day_number.ensures in
-    ap Day (day ∙ sym c.easter_days.ensures.0) ∙ sym (easter-found _ c.if-year-lt1.false c.if-year-gt-LAST_YEAR.false)
+    ap Day (day ∙ sym c.easter_days.ensures.0) ∙ sym (easter-found c.args.year (omega arith) (omega arith))
