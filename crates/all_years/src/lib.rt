@@ -19,6 +19,7 @@ pub struct DayAnswer {
 }
 
 // The day number, if there are such a market and such a date.
+#[tactic(auto, unfolding(crate::specs::AllYears::known_day))]
 fn known_day(market: u32, year: u32, month: u32, day: u32) -> OptionalDay
     ensures { (result ≡ known_day market year month day) × InYears result }
 {

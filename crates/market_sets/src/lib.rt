@@ -18,6 +18,7 @@ use markets::{LAST_MARKET, is_trading_day};
 const SETS_END: u8 = 1 << (LAST_MARKET + 1);
 
 // [market-set]
+#[tactic(auto, unfolding(crate::specs::MarketSets::is_market_set))]
 fn is_market_set(markets: u8) -> bool
     ensures { result ≡ is_market_set markets }
 {
@@ -25,6 +26,7 @@ fn is_market_set(markets: u8) -> bool
 }
 
 // [market-set]: whether the bit of the market is 1.
+#[tactic(auto, unfolding(crate::specs::MarketSets::has_market))]
 fn has_market(markets: u8, market: u32) -> bool
     requires { market < 8 }
     ensures { result ≡ has_market markets market }

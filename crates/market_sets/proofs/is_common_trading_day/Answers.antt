@@ -1,55 +1,37 @@
 -- `market_sets::is_common_trading_day` meets its contract: each turn of the loop is one market.
-use Prim.Native.Nat.{ℕ, ◌-◌, ◌≤◌}
-use mathlib.Core.Path.{◌≡◌, sym, ap, ◌∙◌}
-use mathlib.Core.Bool.{true}
-use mathlib.Core.Logic.{⊎_elim}
-use lib.ListN.{length}
-use native.Mathlib.Omega.{arith}
+use Rattle.std.proofs.Common.{ℕ, ◌≡◌, true, length, sym, ap, ◌∙◌, arith}
 use borrow.Author.Tests.{not-true, not-false}
 use Rattle.markets.specs.Markets.{holidays_by_code}
 use Rattle.market_sets.specs.MarketSets.{all_below, trades_if_member}
 use Rattle.market_sets.proofs.SetLaws.{none_below, one-more-below, no_member, trading-member, all_pass, one-closed}
 use Rattle.market_sets.proofs.is_common_trading_day.Goals as goal
+use Rattle.market_sets.proofs.is_common_trading_day.Goals.{else-has_market-via-then-has_market+else-not-is_trading_day, else-has_market-via-else-has_market}
 
-loop-holds : tie.Need-loop-init invariant-loop decreases-loop
-loop-holds c = (omega arith, none_below _)
+pub loop-market-init : goal.loop-market-init
+loop-market-init c = record { high = omega arith; passed = none_below _ }
 
-has-market-requires : tie.Need-has-market-requires invariant-loop decreases-loop
-has-market-requires c κs = omega arith
+pub returns-then-not-is_trading_day : goal.returns-then-not-is_trading_day
+returns-then-not-is_trading_day c =
+    sym
+    (one-closed c.args.markets c.args.day.number c.loop-market.market (omega arith) (sym c.has_market.ensures ∙ c.if-has_market.true) (sym c.is_trading_day.ensures ∙ c.if-not-is_trading_day.true))
 
-is-trading-day-requires : tie.Need-is-trading-day-requires invariant-loop decreases-loop
-is-trading-day-requires c κs = c.before.before.before.before.requires
+pub loop-market-preserved : goal.loop-market-preserved
+loop-market-preserved c =
+    let a = c.args in
+    let market = c.loop-market.market in
+    let asked = sym c.has_market.ensures in
+    let one_more = one-more-below (trades_if_member a.markets a.day.number) market c.loop-market.invariant.passed in
+    record {
+      high = omega arith;
+      passed = elim c.else-has_market.branch [
+        | else-has_market-via-then-has_market+else-not-is_trading_day w ↦ one_more (trading-member a.markets a.day.number market (asked ∙ w.if-has_market.true) (sym w.is_trading_day.ensures ∙ w.if-not-is_trading_day.false))
+        | else-has_market-via-else-has_market w ↦ one_more (no_member a.markets a.day.number market (asked ∙ w.if-has_market.false))
+      ];
+    }
 
-returns : tie.Need-returns invariant-loop decreases-loop
+pub returns : goal.returns
 returns c =
-    let s = c.before.before.before.before.before in
-    let a = s.before.args in
-    let member = sym c.before.before.before.has-market.ensures ∙ c.before.before.if1.true in
-    let closed = sym c.before.is-trading-day.ensures ∙ not-true _ c.if2.true in
-    sym (one-closed a.markets a.day.number s.loop.market (omega arith) member closed)
-
-add-market : tie.Need-overflow-add-market invariant-loop decreases-loop
-add-market c = record { fits = omega arith }
-
-loop-less : tie.Need-loop-smaller invariant-loop decreases-loop
-loop-less c = omega arith
-
-loop-again : tie.Need-loop-preserved invariant-loop decreases-loop
-loop-again c =
-    let s = c.before.before.before in
-    let a = s.before.args in
-    let market = s.loop.market in
-    let asked = sym c.before.has-market.ensures in
-    let one_more = one-more-below (trades_if_member a.markets a.day.number) market s.loop.invariant.1 in (
-      omega arith,
-      ⊎_elim (λ w. one_more (trading-member a.markets a.day.number market (asked ∙ w.0.taken) (sym w.1.ensures ∙ not-false _ w.2.left)))
-          (λ w. one_more (no_member a.markets a.day.number market (asked ∙ w.left)))
-          c.if1.branch,
-    )
-
-returns-2 : tie.Need-returns-2 invariant-loop decreases-loop
-returns-2 c =
-    let s = c.before in
-    let a = s.before.args in
-    let all : s.loop.market ≡ length holidays_by_code = omega (arith, s.loop.invariant.0) in
-    sym (all_pass a.markets a.day.number (ap (λ (k : ℕ). all_below k (trades_if_member a.markets a.day.number)) (sym all) ∙ s.loop.invariant.1))
+    let a = c.args in
+    let i = c.loop-market.invariant in
+    let all : c.loop-market.market ≡ length holidays_by_code = omega (arith, i.high) in
+    sym (all_pass a.markets a.day.number (ap (λ (k : ℕ). all_below k (trades_if_member a.markets a.day.number)) (sym all) ∙ i.passed))
