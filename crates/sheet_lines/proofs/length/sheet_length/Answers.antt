@@ -1,6 +1,5 @@
 -- `sheet_lines::length::sheet_length` meets its contract: the sum over the five lines.
-use native.Mathlib.Omega.{arith}
-use borrow.Author.Rules.{rules}
+use Rattle.std.proofs.Common.{arith}
 use Rattle.sheet_lines.proofs.LineLaws.{sheet-lengths}
 use Rattle.sheet_lines.proofs.length.sheet_length.Goals as goal
 
