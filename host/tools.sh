@@ -1,4 +1,4 @@
-# Shared by the scripts, which source it from the root of the tree: what a script needs, and proving with progress.
+# Shared by the scripts, which source it from the root of the tree: what a script needs, and building what is proved, with progress.
 # Messages go to standard error and begin with the script's name, ${0##*/}.
 
 say() { # TEXT
@@ -22,33 +22,35 @@ has_rust() { # WHAT: cargo and the Rust that the binding needs are there; where 
     command -v cargo >/dev/null && [ "${version:-0}" -ge 82 ] || { echo "no cargo with Rust 1.82 here: $1 left out"; return 1; }
 }
 
-is_older() { # FILE: than the sources that it is made from
-    [ -n "$(find crates.txt crates -name must-fail -prune -o -newer "$1" -print -quit)" ]
+is_older() { # FILE: than the sources that it is made from; what rt itself puts below crates/ is no source
+    [ -n "$(find crates.txt crates \( -name must-fail -o -name out \) -prune -o \( -type f -o -path 'crates/*/*' \) -newer "$1" -print -quit)" ]
 }
 
-count_crates() { # CRATE: it and all that it uses, by crates.txt, where each crate stands below those that it uses
-    tac crates.txt | awk -F: -v crate="$1" 'BEGIN { used[crate] } $1 in used { n++; split($2, names, " "); for (i in names) used[names[i]] }
-        END { print n }'
-}
-
-show_progress() { # CRATE: reads what rt prints, and says how many crates are proved after each that is proved anew
-    local line proved=0 all
-    all=$(count_crates "$1")
+show_progress() { # reads what rt prints, and says which crate is proved after each that is proved anew
+    local line crate=
     while read -r line; do
         case $line in
-        'rt: '*' proved (unchanged'*) proved=$((proved + 1)) ;;
-        'rt: '*' proved ('* | 'rt: target/staticlib/'*) proved=$((proved + 1)); say "$proved of $all crates proved" ;;
+        'crate '*': modules '*) crate=${line#crate } crate=${crate%%:*} ;;
+        'logic=proved '*) say "$crate is proved" ;;
         esac
     done
 }
 
-prove() { # check|staticlib CRATE FILE: has rt prove the crate and make the file, where that is missing or older than the sources
-    local began=target/$2.began log=target/$2.log
-    [ ! -e "$3" ] || is_older "$3" || return 0
+build() { # lib|run CRATE FILE: has rt prove the crate and build it, and puts the library or the program that it makes at FILE
+    local began=target/$2.began log=target/$2.log made=crates/$2/out/$2
+    [ "$1" = run ] || made=crates/$2/out/lib$2.a
     need rt
     say "proving $2 and what it uses, which takes some minutes the first time"
-    mkdir -p target
+    mkdir -p target "${3%/*}"
     touch "$began" # an edit that is made meanwhile is newer than this, so that the next run proves again
-    rt "$1" "$2" 2>&1 </dev/null | tee "$log" | show_progress "$2" || { cat "$log" >&2; exit 1; }
-    touch -c -r "$began" "$3"
+    # rt run also runs the program, here on an empty input.
+    (cd "crates/$2" && rt "$1") 2>&1 </dev/null | tee "$log" | show_progress || { cat "$log" >&2; exit 1; }
+    cp "$made" "$3.new"
+    touch -r "$began" "$3.new"
+    mv -f "$3.new" "$3"
+}
+
+prove() { # lib|run CRATE FILE: the same, where the file is missing or older than the sources
+    [ ! -e "$3" ] || is_older "$3" || return 0
+    build "$@"
 }

@@ -32,7 +32,7 @@ fn folder() -> Result<PathBuf, String> {
     }
     let built = Path::new(env!("CARGO_MANIFEST_DIR")).join("../../target/staticlib");
     let message = format!(
-        "{} has no {ARCHIVE}: make it by `rt staticlib trading_calendar`, or set TRADING_CALENDAR_LIB_DIR to a folder that has it",
+        "{} has no {ARCHIVE}: make it by `host/build library`, or set TRADING_CALENDAR_LIB_DIR to a folder that has it",
         built.display()
     );
     with_archive(built)

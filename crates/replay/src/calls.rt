@@ -3,10 +3,10 @@
 use crate::hours::{hours_answer, record, session, session_answer, time_answer, trading_hours_new};
 use crate::name::Name;
 use crate::numbers::{Numbers, push_date};
-use crate::{lists, ranges, sheets};
+use crate::{day_ranges, lists, sheets};
 use answers::neighbours::TradingDayAnswer;
 use answers::{BoolAnswer, OptionalDate};
-use trading_calendar::neighbours::{tc_next_trading_day, tc_previous_trading_day};
+use trading_calendar::neighbouring_days::{tc_next_trading_day, tc_previous_trading_day};
 use trading_calendar::trading_hours::{
     tc_is_early_close, tc_is_open, tc_is_open_at, tc_market_close, tc_session_contains,
     tc_session_new, tc_trading_hours, tc_with_early_close,
@@ -166,8 +166,8 @@ pub fn answer(kind: usize, inputs: Numbers) -> Numbers {
         IS_OPEN_AT => bool_answer(tc_is_open_at(record(inputs), v[13])),
         NEXT_TRADING_DAY => trading_day_answer(tc_next_trading_day(v[0], v[1], v[2], v[3])),
         PREVIOUS_TRADING_DAY => trading_day_answer(tc_previous_trading_day(v[0], v[1], v[2], v[3])),
-        TRADING_DAYS_IN_MONTH => ranges::trading_days_in_month(v[0], v[1], v[2], v[3]),
-        COUNT_TRADING_DAYS => ranges::count_trading_days(inputs),
+        TRADING_DAYS_IN_MONTH => day_ranges::trading_days_in_month(v[0], v[1], v[2], v[3]),
+        COUNT_TRADING_DAYS => day_ranges::count_trading_days(inputs),
         _ => Numbers::new(),
     }
 }

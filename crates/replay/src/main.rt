@@ -2,11 +2,11 @@
 #![tactic(auto)]
 
 mod calls;
+mod day_ranges;
 mod hours;
 mod lists;
 mod name;
 mod numbers;
-mod ranges;
 mod reader;
 mod report;
 mod row;

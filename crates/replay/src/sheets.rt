@@ -1,7 +1,7 @@
 // Rows about month sheets: the room of the buffer and the bytes of the text; the fields of the C struct, in order, and the bytes of
 // the buffer.
+use crate::day_ranges::{LARGEST_ROOM, count_answer, push_bytes};
 use crate::numbers::{CAPACITY, Numbers};
-use crate::ranges::{LARGEST_ROOM, count_answer, push_bytes};
 use trading_calendar::sheets::tc_month_sheet;
 
 // What each byte of the buffer is before the call, so that a byte that was kept is seen: no sheet has it.

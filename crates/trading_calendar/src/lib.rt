@@ -2,8 +2,8 @@
 #![tactic(auto)]
 
 pub mod common_days;
-pub mod neighbours;
-pub mod ranges;
+pub mod day_ranges;
+pub mod neighbouring_days;
 pub mod sheets;
 pub mod slices;
 pub mod trading_hours;
@@ -20,12 +20,7 @@ use utils::find_nth_weekday;
 
 // [nth-weekday]: from the end of the month where nth is below 0. None for nth = 0 and beyond 255 either way, for every nth below 0 in
 // December 9999, and for a weekday, a month, a year or an answer out of range.
-pub fn tc_nth_weekday_of_month(
-    year: u32,
-    month: u32,
-    weekday: u32,
-    nth: i32,
-) -> OptionalDate
+pub fn tc_nth_weekday_of_month(year: u32, month: u32, weekday: u32, nth: i32) -> OptionalDate
     ensures { result ≡ optional_date (nth_weekday_of_month year month weekday nth) }
 {
     nth_weekday_answer(year, month, find_nth_weekday(year, month, weekday, nth))

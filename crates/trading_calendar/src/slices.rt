@@ -4,7 +4,7 @@ ghost use Rattle.range_calls.specs.RangeCalls.{count_trading_days_result};
 ghost use Rattle.answers.specs.Answers.{count_answer};
 ghost use Rattle.answers.specs.SliceCall.{slice_order_answer, slice_order_buffer};
 
-use crate::ranges::tc_count_trading_days;
+use crate::day_ranges::tc_count_trading_days;
 use answers::slices::{SliceAnswer, slice_order_answer};
 
 // [slice-order]: over how many days, the shares of each and the remainder, with the slices at the start of the buffer, one number for

@@ -2,8 +2,8 @@
 #![tactic(auto)]
 
 mod common_days;
-mod neighbours;
-mod ranges;
+mod day_ranges;
+mod neighbouring_days;
 mod sheets;
 mod slices;
 mod trading_hours;

@@ -17,7 +17,7 @@ pub extern "C" fn tc_trading_days_in_month(
     ensures { (result ≡ count_answer (trading_days_in_month_result market year month out.old))
         × (out.new ≡ trading_days_in_month_buffer market year month out.old) }
 {
-    trading_calendar::ranges::tc_trading_days_in_month(market, year, month, out)
+    trading_calendar::day_ranges::tc_trading_days_in_month(market, year, month, out)
 }
 
 // [count]: how many days trade from the start to the end, both included, or the first of errors 8, 5 and 1 that applies.
@@ -34,7 +34,7 @@ pub extern "C" fn tc_count_trading_days(
     ensures { result ≡ count_answer (count_trading_days_result market start_year start_month start_day
         end_year end_month end_day) }
 {
-    trading_calendar::ranges::tc_count_trading_days(
+    trading_calendar::day_ranges::tc_count_trading_days(
         market,
         start_year,
         start_month,

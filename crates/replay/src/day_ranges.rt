@@ -3,7 +3,7 @@ ghost use Rattle.std.specs.Prelude.{◌≤◌};
 
 use crate::numbers::{Numbers, push_date};
 use answers::counts::CountAnswer;
-use trading_calendar::ranges::{tc_count_trading_days, tc_trading_days_in_month};
+use trading_calendar::day_ranges::{tc_count_trading_days, tc_trading_days_in_month};
 
 // How many bytes a buffer has at most: with the fields of the struct they are as many numbers as a row holds.
 pub const LARGEST_ROOM: usize = 123;

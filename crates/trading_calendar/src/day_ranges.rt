@@ -7,12 +7,7 @@ use answers::counts::{CountAnswer, count_answer};
 
 // [month-list]: how many days were written to the buffer, one byte for each, or the first of errors 8, 1, 2 and 9 that applies, with
 // which nothing is written [error-writes-nothing].
-pub fn tc_trading_days_in_month(
-    market: u32,
-    year: u32,
-    month: u32,
-    out: &mut [u8],
-) -> CountAnswer
+pub fn tc_trading_days_in_month(market: u32, year: u32, month: u32, out: &mut [u8]) -> CountAnswer
     ensures { (result ≡ count_answer (trading_days_in_month_result market year month out.old))
         × (out.new ≡ trading_days_in_month_buffer market year month out.old) }
 {

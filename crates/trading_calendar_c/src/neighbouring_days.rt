@@ -15,7 +15,7 @@ pub extern "C" fn tc_next_trading_day(
 ) -> TradingDayAnswer
     ensures { result ≡ trading_day_answer (next_trading_day_result market year month day) }
 {
-    trading_calendar::neighbours::tc_next_trading_day(market, year, month, day)
+    trading_calendar::neighbouring_days::tc_next_trading_day(market, year, month, day)
 }
 
 // [previous]: in any year; or the first of errors 8, 5 and 6 that applies.
@@ -28,5 +28,5 @@ pub extern "C" fn tc_previous_trading_day(
 ) -> TradingDayAnswer
     ensures { result ≡ trading_day_answer (previous_trading_day_result market year month day) }
 {
-    trading_calendar::neighbours::tc_previous_trading_day(market, year, month, day)
+    trading_calendar::neighbouring_days::tc_previous_trading_day(market, year, month, day)
 }
