@@ -23,7 +23,7 @@ use Rattle.ranges.proofs.StepLaws.{next-in-years, previous-in-years}
 use Rattle.ranges.proofs.Traversals.{traversal-map, outside-map, traversal-weaker, traversal-unique, outside-ends}
 use Rattle.range_calls.specs.RangeCalls.{distance_of, trading_day, trading_day_result, neighbour_result}
 use Rattle.range_calls.proofs.RangeLaws.{to-later, to-earlier, neighbour-of-date}
-use Rattle.answers.specs.declared.neighbours.TradingDayAnswer.{TradingDayAnswer}
+use Rattle.answers.specs.declared.neighbouring_days.TradingDayAnswer.{TradingDayAnswer}
 use Rattle.answers.specs.Answers.{flag_of, trading_day_answer}
 use Rattle.answers.specs.Expected.{found_day}
 use Rattle.agreement.specs.CallsAgree.{mark_of, next_call, previous_call, NeighbourAnswer, Returns, OnlyList}

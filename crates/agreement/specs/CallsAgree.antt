@@ -9,7 +9,7 @@ use Rattle.markets.specs.Years.{is_supported}
 use Rattle.ranges.specs.Ranges.{days_between, filter, Every, trading_days, sum_of, joined}
 use Rattle.ranges.specs.Traversals.{NonTradingBetween, Traversal}
 use Rattle.range_calls.specs.RangeCalls.{next_trading_day_result, previous_trading_day_result, trading_days_in_month_result, trading_days_in_month_buffer, count_trading_days_result}
-use Rattle.answers.specs.declared.neighbours.TradingDayAnswer.{TradingDayAnswer}
+use Rattle.answers.specs.declared.neighbouring_days.TradingDayAnswer.{TradingDayAnswer}
 use Rattle.answers.specs.declared.counts.CountAnswer.{CountAnswer}
 use Rattle.answers.specs.Answers.{trading_day_answer, count_answer}
 use Rattle.answers.specs.Expected.{found_day, counted, too_small}

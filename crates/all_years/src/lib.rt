@@ -1,4 +1,4 @@
-// Trading days and holidays in any of years 1 to 9999, as a C function. It is no part of the library, whose calls answer for 2020
+// Trading days and holidays in any of years 1 to 9999. It is no part of the library, whose calls answer for 2020
 // to 2030. The comparison with the Rust, whose markets answer in every year, and the stored holidays of other years ask it.
 #![tactic(auto)]
 
@@ -34,8 +34,7 @@ fn known_day(market: u32, year: u32, month: u32, day: u32) -> OptionalDay
 }
 
 // [is-holiday], [trading-day]
-#[unsafe(no_mangle)]
-pub extern "C" fn all_years_day(market: u32, year: u32, month: u32, day: u32) -> DayAnswer
+pub fn all_years_day(market: u32, year: u32, month: u32, day: u32) -> DayAnswer
     ensures { result ≡ day_answer market (known_day market year month day) }
 {
     match known_day(market, year, month, day) {

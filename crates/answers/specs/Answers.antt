@@ -15,7 +15,7 @@ use Rattle.range_calls.specs.declared.TradingDayResult.{TradingDayResult}
 use Rattle.orders.specs.declared.SliceResult.{SliceResult}
 use Rattle.answers.specs.declared.OptionalDate.{OptionalDate}
 use Rattle.answers.specs.declared.BoolAnswer.{BoolAnswer}
-use Rattle.answers.specs.declared.neighbours.TradingDayAnswer.{TradingDayAnswer}
+use Rattle.answers.specs.declared.neighbouring_days.TradingDayAnswer.{TradingDayAnswer}
 use Rattle.answers.specs.declared.counts.CountAnswer.{CountAnswer}
 use Rattle.answers.specs.declared.slices.SliceAnswer.{SliceAnswer}
 use Rattle.answers.specs.declared.optional_dates.OptionalDateAnswer.{OptionalDateAnswer}

@@ -3,7 +3,7 @@
 #![tactic(auto)]
 
 pub mod counts;
-pub mod neighbours;
+pub mod neighbouring_days;
 pub mod optional_dates;
 pub mod records;
 pub mod slices;

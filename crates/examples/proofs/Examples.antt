@@ -17,7 +17,7 @@ use Rattle.range_calls.specs.declared.TradingDayResult.{TradingDayResult}
 use Rattle.checks.specs.Checks.{checked_day, try_day, supported_day, leaves_years, checked_range, try_range}
 use Rattle.range_calls.specs.RangeCalls.{distance_of}
 use Rattle.answers.specs.declared.BoolAnswer.{BoolAnswer}
-use Rattle.answers.specs.declared.neighbours.TradingDayAnswer.{TradingDayAnswer}
+use Rattle.answers.specs.declared.neighbouring_days.TradingDayAnswer.{TradingDayAnswer}
 use Rattle.answers.specs.declared.counts.CountAnswer.{CountAnswer}
 use Rattle.answers.specs.Answers.{flag_of, bool_answer, trading_day_answer, count_answer}
 use Rattle.examples.specs.Examples.{Example, CalculateEaster, IsTradingDay, IsHoliday, NextTradingDay, CountTradingDays, Holds, examples, month_first_examples, ExamplesHold}

@@ -9,7 +9,7 @@ use Rattle.calendar.specs.CalendarCalls.{is_trading_day_result, is_holiday_resul
 use Rattle.range_calls.specs.RangeCalls.{next_trading_day_result, count_trading_days_result}
 use Rattle.answers.specs.declared.OptionalDate.{OptionalDate}
 use Rattle.answers.specs.declared.BoolAnswer.{BoolAnswer}
-use Rattle.answers.specs.declared.neighbours.TradingDayAnswer.{TradingDayAnswer}
+use Rattle.answers.specs.declared.neighbouring_days.TradingDayAnswer.{TradingDayAnswer}
 use Rattle.answers.specs.declared.counts.CountAnswer.{CountAnswer}
 use Rattle.answers.specs.Answers.{optional_date, bool_answer, trading_day_answer, count_answer}
 use Rattle.answers.specs.Expected.{found_date, is_yes, is_no, found_day, counted, out_of_range}

@@ -4,7 +4,7 @@ use crate::hours::{hours_answer, record, session, session_answer, time_answer, t
 use crate::name::Name;
 use crate::numbers::{Numbers, push_date};
 use crate::{day_ranges, lists, sheets};
-use answers::neighbours::TradingDayAnswer;
+use answers::neighbouring_days::TradingDayAnswer;
 use answers::{BoolAnswer, OptionalDate};
 use trading_calendar::neighbouring_days::{tc_next_trading_day, tc_previous_trading_day};
 use trading_calendar::trading_hours::{

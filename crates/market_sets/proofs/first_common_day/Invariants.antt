@@ -8,10 +8,10 @@ use Rattle.market_sets.proofs.first_common_day.Given as goal
 
 abbrev pub invariant-loop-day : goal.invariant-loop-day
 invariant-loop-day l = record {
-    same : SameDay l.day;
-    last_in : l.last ≤ last_day;
-    left : find (is_common_trading_day l.markets) (days l.fn.first.number l.last) ≡ find (is_common_trading_day l.markets) (days l.day.number l.last);
-  }
+  same : SameDay l.day;
+  last_in : l.last ≤ last_day;
+  left : find (is_common_trading_day l.markets) (days l.fn.first.number l.last) ≡ find (is_common_trading_day l.markets) (days l.day.number l.last);
+}
 
 abbrev pub decreases-loop-day : goal.decreases-loop-day
 decreases-loop-day l = suc l.last - l.day.number

@@ -1,6 +1,5 @@
 -- `market_sets::is_common_trading_day` meets its contract: each turn of the loop is one market.
-use Rattle.std.proofs.Common.{ℕ, ◌≡◌, true, length, sym, ap, ◌∙◌, arith}
-use borrow.Author.Tests.{not-true, not-false}
+use Rattle.std.proofs.Common.{ℕ, ◌≡◌, length, sym, ap, ◌∙◌, arith}
 use Rattle.markets.specs.Markets.{holidays_by_code}
 use Rattle.market_sets.specs.MarketSets.{all_below, trades_if_member}
 use Rattle.market_sets.proofs.SetLaws.{none_below, one-more-below, no_member, trading-member, all_pass, one-closed}

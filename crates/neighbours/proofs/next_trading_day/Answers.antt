@@ -10,11 +10,11 @@ use Rattle.neighbours.proofs.next_trading_day.Goals as goal
 
 pub loop-next-init : goal.loop-next-init
 loop-next-init c = record {
-    same = c.requires.0;
-    in_days = c.requires.1;
-    last_in = omega (arith, c.last_day_of-last.ensures, searched-days c.args.market);
-    left = cc;
-  }
+  same = c.requires.0;
+  in_days = c.requires.1;
+  last_in = omega (arith, c.last_day_of-last.ensures, searched-days c.args.market);
+  left = cc;
+}
 
 pub returns-then-is_trading_day : goal.returns-then-is_trading_day
 returns-then-is_trading_day c =

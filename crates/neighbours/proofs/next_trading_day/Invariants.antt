@@ -9,11 +9,11 @@ use Rattle.neighbours.proofs.next_trading_day.Given as goal
 
 abbrev pub invariant-loop-next : goal.invariant-loop-next
 invariant-loop-next l = record {
-    same : SameDay l.next;
-    in_days : l.next.number ≤ last_day;
-    last_in : l.last ≤ last_day;
-    left : next_trading_day (is_trading_day l.market) (last_day_of l.market) l.fn.day.number ≡ next_trading_day (is_trading_day l.market) l.last l.next.number;
-  }
+  same : SameDay l.next;
+  in_days : l.next.number ≤ last_day;
+  last_in : l.last ≤ last_day;
+  left : next_trading_day (is_trading_day l.market) (last_day_of l.market) l.fn.day.number ≡ next_trading_day (is_trading_day l.market) l.last l.next.number;
+}
 
 abbrev pub decreases-loop-next : goal.decreases-loop-next
 decreases-loop-next l = l.last - l.next.number

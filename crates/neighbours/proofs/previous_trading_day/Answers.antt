@@ -10,11 +10,11 @@ use Rattle.neighbours.proofs.previous_trading_day.Goals as goal
 
 pub loop-previous-init : goal.loop-previous-init
 loop-previous-init c = record {
-    same = c.requires.0;
-    in_days = c.requires.1;
-    first_in = omega (arith, c.first_day_of-first.ensures, searched-days c.args.market);
-    left = cc;
-  }
+  same = c.requires.0;
+  in_days = c.requires.1;
+  first_in = omega (arith, c.first_day_of-first.ensures, searched-days c.args.market);
+  left = cc;
+}
 
 pub returns-then-is_trading_day : goal.returns-then-is_trading_day
 returns-then-is_trading_day c =

@@ -9,11 +9,11 @@ use Rattle.neighbours.proofs.previous_trading_day.Given as goal
 
 abbrev pub invariant-loop-previous : goal.invariant-loop-previous
 invariant-loop-previous l = record {
-    same : SameDay l.previous;
-    in_days : l.previous.number ≤ last_day;
-    first_in : 1 ≤ l.first;
-    left : previous_trading_day (is_trading_day l.market) (first_day_of l.market) l.fn.day.number ≡ previous_trading_day (is_trading_day l.market) l.first l.previous.number;
-  }
+  same : SameDay l.previous;
+  in_days : l.previous.number ≤ last_day;
+  first_in : 1 ≤ l.first;
+  left : previous_trading_day (is_trading_day l.market) (first_day_of l.market) l.fn.day.number ≡ previous_trading_day (is_trading_day l.market) l.first l.previous.number;
+}
 
 abbrev pub decreases-loop-previous : goal.decreases-loop-previous
 decreases-loop-previous l = l.previous.number

@@ -22,7 +22,7 @@ returns c =
     let a = c.args in
     let more = c.if-remainder-gt0.more in
     let more-is : 0 < a.remainder → more ≡ a.per_day + 1 =
-        λ h. elim c.if-remainder-gt0.branch [ then-remainder-gt0 w ↦ w.more-is | else-remainder-gt0 w ↦ absurd (omega arith) ] in
+    λ h. elim c.if-remainder-gt0.branch [ then-remainder-gt0 w ↦ w.more-is | else-remainder-gt0 w ↦ absurd (omega arith) ] in
     let out = part_filled [] _ a.out.now _ 0 a.remainder a.remainder more (sym (overwrite-none _)) refl (omega arith) (omega (arith, c.requires)) c.fill.ensures in
     part_filled (replicate a.remainder more) _ a.out.now _ a.remainder a.count (a.count - a.remainder) a.per_day out (length-replicate a.remainder more) (omega (arith, c.requires)) c.requires.1 c.fill-2.ensures
     ∙ ap (λ (l : List ℕ). overwrite l a.out.now) (slices-are a.per_day a.remainder a.count more (omega (arith, c.requires)) more-is)

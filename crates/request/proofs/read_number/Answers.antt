@@ -6,10 +6,10 @@ use Rattle.request.proofs.RequestLaws.{no_digit, many-digits, no-line-feed, numb
 use Rattle.request.proofs.read_number.Goals as goal
 
 pub returns-then-n-eq0 : goal.returns-then-n-eq0
-returns-then-n-eq0 c = no_digit _ _ c.leading_digits-n.ensures c.if-n-eq0.true
+returns-then-n-eq0 c = no_digit _ _ c.leading_digits-n.ensures (omega arith)
 
 pub returns-then-n-gt9 : goal.returns-then-n-gt9
-returns-then-n-gt9 c = many-digits _ _ c.leading_digits-n.ensures c.if-n-gt9.true
+returns-then-n-gt9 c = many-digits _ _ c.leading_digits-n.ensures (omega arith)
 
 pub returns-then-not-is_line_feed : goal.returns-then-not-is_line_feed
 returns-then-not-is_line_feed c = no-line-feed _ _ c.leading_digits-n.ensures (sym c.if-not-is_line_feed.ensures)

@@ -18,17 +18,17 @@ loop-current-preserved c =
     let rest : ℕ → ℕ → ℕ = λ n i. count_from trades n i (suc last - i) in
     elim c.if-is_trading_day.branch [
       | then-is_trading_day w ↦ record {
-          same = e.0;
-          last_in = i.last_in;
-          below = omega arith;
-          left = i.left ∙ count-one trades count day last (omega arith) (asked ∙ w.if-is_trading_day.true) ∙ ap₂ rest (sym w.count-is) (sym e.1);
-        }
+        same = e.0;
+        last_in = i.last_in;
+        below = omega arith;
+        left = i.left ∙ count-one trades count day last (omega arith) (asked ∙ w.if-is_trading_day.true) ∙ ap₂ rest (sym w.count-is) (sym e.1);
+      }
       | else-is_trading_day w ↦ record {
-          same = e.0;
-          last_in = i.last_in;
-          below = omega arith;
-          left = i.left ∙ count-passed trades count day last (omega arith) (asked ∙ w.if-is_trading_day.false) ∙ ap₂ rest (sym w.count-is) (sym e.1);
-        }
+        same = e.0;
+        last_in = i.last_in;
+        below = omega arith;
+        left = i.left ∙ count-passed trades count day last (omega arith) (asked ∙ w.if-is_trading_day.false) ∙ ap₂ rest (sym w.count-is) (sym e.1);
+      }
     ]
 
 pub returns : goal.returns

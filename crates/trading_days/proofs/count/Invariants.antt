@@ -8,11 +8,11 @@ use Rattle.trading_days.proofs.count.Given as goal
 
 abbrev pub invariant-loop-current : goal.invariant-loop-current
 invariant-loop-current l = record {
-    same : SameDay l.current;
-    last_in : l.last ≤ last_day;
-    below : l.count < l.current.number;
-    left : count_trading_days (is_trading_day l.market) l.fn.first.number l.last ≡ count_from (is_trading_day l.market) l.count l.current.number (suc l.last - l.current.number);
-  }
+  same : SameDay l.current;
+  last_in : l.last ≤ last_day;
+  below : l.count < l.current.number;
+  left : count_trading_days (is_trading_day l.market) l.fn.first.number l.last ≡ count_from (is_trading_day l.market) l.count l.current.number (suc l.last - l.current.number);
+}
 
 abbrev pub decreases-loop-current : goal.decreases-loop-current
 decreases-loop-current l = suc l.last - l.current.number

@@ -80,15 +80,15 @@ loop-day-preserved c =
                 ∙ sym (λ j. rest (stored j) (w.count-is j) (next j));
           }
       | else-is_trading_day w ↦ record {
-          same = e.0;
-          from = omega arith;
-          to = omega arith;
-          below = omega arith;
-          size = ap length w.days-is ∙ i.size;
-          left = i.left
-              ∙ day-passed trades s.days s.count d last (omega arith) (answer ∙ w.if-is_trading_day.false)
-              ∙ sym (λ j. rest (w.days-is j) (w.count-is j) (next j));
-        }
+        same = e.0;
+        from = omega arith;
+        to = omega arith;
+        below = omega arith;
+        size = ap length w.days-is ∙ i.size;
+        left = i.left
+            ∙ day-passed trades s.days s.count d last (omega arith) (answer ∙ w.if-is_trading_day.false)
+            ∙ sym (λ j. rest (w.days-is j) (w.count-is j) (next j));
+      }
     ]
 
 pub returns : goal.returns

@@ -1,6 +1,5 @@
 -- `range_calls::counts::count_trading_days` meets its contract: error 8, the count past the check of the dates, and its error stays.
 use Rattle.std.proofs.Common.{ℕ, ◌≡◌, true, ap, ap₂, sym, ◌∙◌, arith}
-use Rattle.gregorian.specs.Calendar.{date}
 use Rattle.markets.specs.Markets.{is_market, is_trading_day}
 use Rattle.ranges.specs.Ranges.{count_trading_days}
 use Rattle.error.specs.declared.CountResult.{CountResult}

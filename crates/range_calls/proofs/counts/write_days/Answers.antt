@@ -1,5 +1,5 @@
 -- `range_calls::counts::write_days` meets its contract: the list of the month fits in the buffer.
-use Rattle.std.proofs.Common.{◌≡◌, length, sym, ap, arith}
+use Rattle.std.proofs.Common.{length, sym, ap, arith}
 use Rattle.trading_days.proofs.MonthDayLaws.{listed, count-is}
 use Rattle.checks.proofs.CheckLaws.{room-checked}
 use Rattle.range_calls.proofs.counts.write_days.Goals as goal

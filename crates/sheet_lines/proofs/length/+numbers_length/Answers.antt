@@ -22,10 +22,10 @@ module _ (numbers : List ℕ) (n d : ℕ) (e : n ≡ get_or numbers 0 0) (w : d 
       omega (arith, ap length (numbers_more numbers n e h))
 
 pub returns-then-numbers-eq0 : goal.returns-then-numbers-eq0
-returns-then-numbers-eq0 t c = (sym (ap length (numbers-none c.args.numbers.now c.if-numbers-eq0.true)), omega arith)
+returns-then-numbers-eq0 t c = (sym (ap length (numbers-none c.args.numbers.now (omega arith))), omega arith)
 
 pub returns-then-numbers-eq1 : goal.returns-then-numbers-eq1
-returns-then-numbers-eq1 t c = (length-one c.args.numbers.now _ _ c.wide.ensures c.digits-n.ensures.0 c.if-numbers-eq1.true, omega arith)
+returns-then-numbers-eq1 t c = (length-one c.args.numbers.now _ _ c.wide.ensures c.digits-n.ensures.0 (omega arith), omega arith)
 
 pub returns : goal.returns
 returns t c =

@@ -8,12 +8,12 @@ use Rattle.sheet_lines.proofs.lines.+write_lines.Goals as goal
 pub write_days-requires : goal.write_days-requires
 write_days-requires t c =
     let a = c.args in
-    rw (sheet-last a.line a.market a.year a.month a.days.now c.if-line-eq4.true) at c.requires.2
+    rw (sheet-last a.line a.market a.year a.month a.days.now (omega arith)) at c.requires.2
 
 pub returns-then-line-eq4 : goal.returns-then-line-eq4
 returns-then-line-eq4 t c =
     let a = c.args in
-    rw (sheet-last a.line a.market a.year a.month a.days.now c.if-line-eq4.true) c.write_days.ensures
+    rw (sheet-last a.line a.market a.year a.month a.days.now (omega arith)) c.write_days.ensures
 
 -- a line before it
 pub write_field-n-requires : goal.write_field-n-requires

@@ -8,14 +8,14 @@ use Rattle.sheet_lines.proofs.lines.+write_numbers.Goals as goal
 
 -- no number
 pub returns-then-numbers-eq0 : goal.returns-then-numbers-eq0
-returns-then-numbers-eq0 t c = rw (numbers-none c.args.numbers.now c.if-numbers-eq0.true) c.write.ensures
+returns-then-numbers-eq0 t c = rw (numbers-none c.args.numbers.now (omega arith)) c.write.ensures
 
 -- one
 pub write_number-requires : goal.write_number-requires
-write_number-requires t c = rw (numbers-one c.args.numbers.now _ c.wide-number.ensures c.if-numbers-eq1.true) at c.requires
+write_number-requires t c = rw (numbers-one c.args.numbers.now _ c.wide-number.ensures (omega arith)) at c.requires
 
 pub returns-then-numbers-eq1 : goal.returns-then-numbers-eq1
-returns-then-numbers-eq1 t c = rw (numbers-one c.args.numbers.now _ c.wide-number.ensures c.if-numbers-eq1.true) c.write_number.ensures
+returns-then-numbers-eq1 t c = rw (numbers-one c.args.numbers.now _ c.wide-number.ensures (omega arith)) c.write_number.ensures
 
 -- more: the first with its comma, and then the rest
 pub write_number-n-requires : goal.write_number-n-requires
