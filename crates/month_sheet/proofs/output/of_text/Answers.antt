@@ -5,7 +5,7 @@ use Rattle.month_sheet.proofs.PrintLaws.{sheet-printed, line-fits, line-printed}
 use Rattle.month_sheet.proofs.output.of_text.Goals as goal
 
 pub returns-then-answer-eq0 : goal.returns-then-answer-eq0
-returns-then-answer-eq0 c = sheet-printed c.args.text.now c.args.out.now (search rules) _ _ c.tc_month_sheet-answer.ensures c.if-answer-eq0.true
+returns-then-answer-eq0 c = sheet-printed c.args.text.now c.args.out.now (search rules) _ _ c.tc_month_sheet-answer.ensures (omega arith)
 
 pub write_line-requires : goal.write_line-requires
 write_line-requires c = line-fits c.args.text.now c.args.out.now (search rules) _ _ c.tc_month_sheet-answer.ensures (omega arith)
