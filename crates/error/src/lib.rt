@@ -25,32 +25,6 @@ pub enum CalendarError {
     InvalidTime,
 }
 
-// In the place of the Rust's Result<T>, for each kind of answer that needs no other crate.
-#[derive(Clone, Copy)]
-pub enum BoolResult {
-    Ok(bool),
-    Err(CalendarError),
-}
-
-#[derive(Clone, Copy)]
-pub enum TimeResult {
-    Ok(u32),
-    Err(CalendarError),
-}
-
-#[derive(Clone, Copy)]
-pub enum CountResult {
-    Ok(u32),
-    Err(CalendarError),
-}
-
-#[derive(Clone, Copy)]
-pub enum OptionalDateResult {
-    Found(Date),
-    None,
-    Err(CalendarError),
-}
-
 // [errors]: the number of an error, the number of entries returned with error 9, and the date returned with error 1; 0 and no date
 // where nothing is returned [reading-nothing].
 #[derive(Clone, Copy)]

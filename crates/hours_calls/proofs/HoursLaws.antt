@@ -1,33 +1,33 @@
 -- The laws of the checks: what each case answers, and what becomes of the hours or of the error.
 -- Assumes nothing.
+use Rattle.std.proofs.Common.{Result, Ok, Err}
 use mathlib.Core.Path.{◌≡◌, ap, ◌∙◌}
 use mathlib.Core.Bool.{Bool, true, false, ◌&&◌}
 use Rattle.gregorian.specs.Calendar.{is_date_of}
 use Rattle.error.specs.declared.CalendarError.{CalendarError}
 use Rattle.error.specs.declared.CalendarError.TheVariants.{InvalidDate, TimeOutOfRange}
 use Rattle.schedule.specs.declared.TradingHours.{TradingHours}
-use Rattle.schedule.specs.declared.HoursResult.{HoursResult}
 use Rattle.hours_calls.specs.HoursCalls.{hours_in_range, checked_hours, try_hours}
 
 module _ (hours : TradingHours) (time_in_range : Bool) where
   abbrev date-is : Bool
   date-is = is_date_of hours.date
 
-  pub error-5 : date-is ≡ false → HoursResult.Err InvalidDate ≡ checked_hours hours time_in_range
+  pub error-5 : date-is ≡ false → Err InvalidDate ≡ checked_hours hours time_in_range
   unfolding checked_hours
   error-5 d = simp d
 
-  pub error-7 : date-is ≡ true → (hours_in_range hours && time_in_range) ≡ false → HoursResult.Err TimeOutOfRange ≡ checked_hours hours time_in_range
+  pub error-7 : date-is ≡ true → (hours_in_range hours && time_in_range) ≡ false → Err TimeOutOfRange ≡ checked_hours hours time_in_range
   unfolding checked_hours
   error-7 d t = simp (d, t)
 
-  pub checked : date-is ≡ true → (hours_in_range hours && time_in_range) ≡ true → HoursResult.Ok hours ≡ checked_hours hours time_in_range
+  pub checked : date-is ≡ true → (hours_in_range hours && time_in_range) ≡ true → Ok hours ≡ checked_hours hours time_in_range
   unfolding checked_hours
   checked d t = simp (d, t)
 
-module _ {A : Type 0} (error : CalendarError → A) (rest : TradingHours → A) (r : HoursResult) where
-  pub past-ok : (h : TradingHours) (a : A) → HoursResult.Ok h ≡ r → a ≡ rest h → a ≡ try_hours r error rest
-  past-ok h a q e = e ∙ ap (λ (x : HoursResult). try_hours x error rest) q
+module _ {A : Type 0} (error : CalendarError → A) (rest : TradingHours → A) (r : Result TradingHours CalendarError) where
+  pub past-ok : (h : TradingHours) (a : A) → Ok h ≡ r → a ≡ rest h → a ≡ try_hours r error rest
+  past-ok h a q e = e ∙ ap (λ (x : Result TradingHours CalendarError). try_hours x error rest) q
 
-  pub past-error : (e : CalendarError) → HoursResult.Err e ≡ r → error e ≡ try_hours r error rest
-  past-error e q = ap (λ (x : HoursResult). try_hours x error rest) q
+  pub past-error : (e : CalendarError) → Err e ≡ r → error e ≡ try_hours r error rest
+  past-error e q = ap (λ (x : Result TradingHours CalendarError). try_hours x error rest) q

@@ -24,23 +24,16 @@ pub struct Session {
     pub end: u32,
 }
 
-// In the place of the Rust's Result<Session>.
-#[derive(Clone, Copy)]
-pub enum SessionResult {
-    Ok(Session),
-    Err(CalendarError),
-}
-
 impl Session {
     // [session-new]: an end before the start means a session over midnight.
     #[tactic(auto, unfolding(crate::specs::Schedule::session_new))]
-    pub fn new(start: u32, end: u32) -> SessionResult
+    pub fn new(start: u32, end: u32) -> Result<Session, CalendarError>
         ensures { result ≡ session_new start end }
     {
         if end == start {
-            return SessionResult::Err(CalendarError::InvalidSession);
+            return Err(CalendarError::InvalidSession);
         }
-        SessionResult::Ok(Session { start, end })
+        Ok(Session { start, end })
     }
 
     // [contains]
@@ -56,40 +49,26 @@ impl Session {
     }
 }
 
-// In the place of the Rust's Option<Session>.
-#[derive(Clone, Copy)]
-pub enum OptionalSession {
-    Some(Session),
-    None,
-}
-
-impl OptionalSession {
+impl Option<Session> {
     // Whether there is a session, and it contains the time.
     fn contains(self, time: u32) -> bool
         ensures { result ≡ may_contain self time }
     {
         match self {
-            OptionalSession::Some(session) => session.contains(time),
-            OptionalSession::None => false,
+            Some(session) => session.contains(time),
+            None => false,
         }
     }
 }
 
-// In the place of the Rust's Option<NaiveTime>.
-#[derive(Clone, Copy)]
-pub enum OptionalTime {
-    Some(u32),
-    None,
-}
-
-impl OptionalTime {
+impl Option<u32> {
     // Whether the time is not before this one, if there is one.
     fn is_reached(self, time: u32) -> bool
         ensures { result ≡ is_reached self time }
     {
         match self {
-            OptionalTime::Some(early_close) => early_close <= time,
-            OptionalTime::None => true,
+            Some(early_close) => early_close <= time,
+            None => true,
         }
     }
 }
@@ -98,17 +77,10 @@ impl OptionalTime {
 #[derive(Clone, Copy)]
 pub struct TradingHours {
     pub date: Date,
-    pub pre_market: OptionalSession,
+    pub pre_market: Option<Session>,
     pub regular: Session,
-    pub after_hours: OptionalSession,
-    pub early_close: OptionalTime,
-}
-
-// In the place of the Rust's Result<TradingHours>.
-#[derive(Clone, Copy)]
-pub enum HoursResult {
-    Ok(TradingHours),
-    Err(CalendarError),
+    pub after_hours: Option<Session>,
+    pub early_close: Option<u32>,
 }
 
 impl TradingHours {
@@ -116,8 +88,8 @@ impl TradingHours {
     pub fn new(
         date: Date,
         regular: Session,
-        pre_market: OptionalSession,
-        after_hours: OptionalSession,
+        pre_market: Option<Session>,
+        after_hours: Option<Session>,
     ) -> Self
         ensures { result ≡ hours_new date regular pre_market after_hours }
     {
@@ -126,28 +98,28 @@ impl TradingHours {
             pre_market,
             regular,
             after_hours,
-            early_close: OptionalTime::None,
+            early_close: None,
         }
     }
 
     // [with-early-close]
     #[tactic(auto, unfolding(crate::specs::Schedule::with_early_close))]
-    pub fn with_early_close(self, early_close: u32) -> HoursResult
+    pub fn with_early_close(self, early_close: u32) -> Result<TradingHours, CalendarError>
         ensures { result ≡ with_early_close self early_close }
     {
         let regular = self.regular;
         if regular.end <= early_close {
-            return HoursResult::Err(CalendarError::InvalidTime);
+            return Err(CalendarError::InvalidTime);
         }
         let date = self.date;
         let pre_market = self.pre_market;
         let after_hours = self.after_hours;
-        HoursResult::Ok(TradingHours {
+        Ok(TradingHours {
             date,
             pre_market,
             regular,
             after_hours,
-            early_close: OptionalTime::Some(early_close),
+            early_close: Some(early_close),
         })
     }
 
@@ -157,8 +129,8 @@ impl TradingHours {
     {
         let early_close = self.early_close;
         match early_close {
-            OptionalTime::Some(_) => true,
-            OptionalTime::None => false,
+            Some(_) => true,
+            None => false,
         }
     }
 
@@ -169,8 +141,8 @@ impl TradingHours {
         let early_close = self.early_close;
         let regular = self.regular;
         match early_close {
-            OptionalTime::Some(time) => time,
-            OptionalTime::None => regular.end,
+            Some(time) => time,
+            None => regular.end,
         }
     }
 
@@ -196,8 +168,8 @@ fn regular_hours(date: Date, start: u32, end: u32) -> TradingHours
     TradingHours::new(
         date,
         Session { start, end },
-        OptionalSession::None,
-        OptionalSession::None,
+        None,
+        None,
     )
 }
 

@@ -1,8 +1,7 @@
 -- `range_calls::counts::count_trading_days` meets its contract: error 8, the count past the check of the dates, and its error stays.
-use Rattle.std.proofs.Common.{ℕ, ◌≡◌, true, ap, ap₂, sym, ◌∙◌, arith}
+use Rattle.std.proofs.Common.{ℕ, ◌≡◌, true, ap, ap₂, sym, ◌∙◌, arith, Ok}
 use Rattle.markets.specs.Markets.{is_market, is_trading_day}
 use Rattle.ranges.specs.Ranges.{count_trading_days}
-use Rattle.error.specs.declared.CountResult.{CountResult}
 use Rattle.checks.proofs.CheckLaws.{past-range, check-passed}
 use Rattle.range_calls.proofs.counts.count_trading_days.Goals as goal
 
@@ -21,4 +20,4 @@ returns-in-Ok c =
     let counted : ℕ → ℕ → ℕ = count_trading_days (is_trading_day c.args.market) in
     simp known
     (past-range _ _ _ _ _ _ (sym (check-passed _ _ c.in-Ok.ensures).0)
-    (ap CountResult.Ok (c.count.ensures ∙ ap₂ counted c.calendar_day-first.ensures.1 c.day_number-last.ensures)))
+    (ap Ok (c.count.ensures ∙ ap₂ counted c.calendar_day-first.ensures.1 c.day_number-last.ensures)))

@@ -11,8 +11,8 @@ unfolding calculate_easter_monday
 returns-in_default c = after_none (λ n. n + 1) _ c.in_default.ensures
 
 pub overflow_add-result : goal.overflow_add-result
-overflow_add-result c = omega (arith, easter-day _ _ (sym c.in-Day.ensures))
+overflow_add-result c = omega (arith, easter-day _ _ (sym c.in-Some.ensures))
 
 pub returns : goal.returns
 unfolding calculate_easter_monday
-returns c = after-day (λ n. n + 1) _ _ c.in-Day.ensures
+returns c = after-day (λ n. n + 1) _ _ c.in-Some.ensures

@@ -11,8 +11,8 @@ unfolding calculate_good_friday
 returns-in_default c = after_none (λ n. n - 2) _ c.in_default.ensures
 
 pub overflow_sub-result : goal.overflow_sub-result
-overflow_sub-result c = omega (arith, easter-day _ _ (sym c.in-Day.ensures))
+overflow_sub-result c = omega (arith, easter-day _ _ (sym c.in-Some.ensures))
 
 pub returns : goal.returns
 unfolding calculate_good_friday
-returns c = after-day (λ n. n - 2) _ _ c.in-Day.ensures
+returns c = after-day (λ n. n - 2) _ _ c.in-Some.ensures
