@@ -23,7 +23,7 @@ pub when-day : (b : Bool) (x : Option ℕ) (t : ℕ) → cond b x None ≡ Some 
 when-day true x t e = (refl, e)
 when-day false x t e = (cc, cc)
 
-never : (b : Bool) → cond b None None ≡ None
+never : (b : Bool) → cond {A = Option ℕ} b None None ≡ None
 never true = refl
 never false = refl
 
