@@ -54,6 +54,7 @@ pub fn calculate_easter(year: u32) -> Option<u32>
     Some(easter)
 }
 
+#[tactic(auto, unfolding(crate::specs::Easter::calculate_good_friday))]
 pub fn calculate_good_friday(year: u32) -> Option<u32>
     ensures { result ≡ calculate_good_friday year }
 {
@@ -61,6 +62,7 @@ pub fn calculate_good_friday(year: u32) -> Option<u32>
     Some(easter - 2)
 }
 
+#[tactic(auto, unfolding(crate::specs::Easter::calculate_easter_monday))]
 pub fn calculate_easter_monday(year: u32) -> Option<u32>
     ensures { result ≡ calculate_easter_monday year }
 {
