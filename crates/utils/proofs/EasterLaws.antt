@@ -126,12 +126,6 @@ map-day-id (Some n) = refl
 map-day-id None = refl
 
 -- what `?` makes of an answer
-pub after_none : (f : ℕ → ℕ) (y : ℕ) → None ≡ calculate_easter y → None ≡ option_map f (calculate_easter y)
-after_none f y e = ap (option_map f) e
-
-pub after-day : (f : ℕ → ℕ) (y n : ℕ) → Some n ≡ calculate_easter y → Some (f n) ≡ option_map f (calculate_easter y)
-after-day f y n e = ap (option_map f) e
-
 pub easter-found : (y : ℕ) → 1 ≤ y → y ≤ last_year → calculate_easter y ≡ Some (easter y)
 unfolding calculate_easter
 easter-found y l h = simp (le-leb 1 y l, le-leb y last_year h)
