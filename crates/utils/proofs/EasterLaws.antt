@@ -125,7 +125,6 @@ pub map-day-id : (r : Option ℕ) → option_map (λ n. n) r ≡ r
 map-day-id (Some n) = refl
 map-day-id None = refl
 
--- what `?` makes of an answer
 pub easter-found : (y : ℕ) → 1 ≤ y → y ≤ last_year → calculate_easter y ≡ Some (easter y)
 unfolding calculate_easter
 easter-found y l h = simp (le-leb 1 y l, le-leb y last_year h)
