@@ -8,6 +8,7 @@ use lib.Dec.{eqb}
 use borrow.Author.Tests.{eq-eqb, ne_eqb}
 use Rattle.schedule.specs.declared.TradingHours.{TradingHours}
 use Rattle.answers.specs.Records.{optional_session, optional_time, trading_hours_of, has_session, session_of, has_time, time_of, hours_of}
+use Rattle.schedule.specs.declared.Session.{Session}
 
 module _ {A : Type 0} (has : ℕ) (none some : A) where
   pub absent : has ≡ 0 → none ≡ cond (eqb has 0) none some

@@ -14,6 +14,11 @@ use Rattle.answers.specs.declared.trading_hours.SessionAnswer.{SessionAnswer}
 use Rattle.answers.specs.declared.trading_hours.HoursAnswer.{HoursAnswer}
 use Rattle.answers.specs.Records.{hours_of, no_hours}
 use Rattle.error.specs.declared.CalendarError.{CalendarError}
+use Rattle.schedule.specs.declared.Session.{Session}
+use Rattle.schedule.specs.declared.TradingHours.{TradingHours}
+use Rattle.range_calls.specs.declared.TradingDay.{TradingDay}
+use Rattle.orders.specs.declared.Slicing.{Slicing}
+use Rattle.gregorian.specs.declared.Date.{Date}
 
 -- A day is found with its date; of none every field is 0.
 unfoldable pub optional_date : Option ℕ → OptionalDate

@@ -1,12 +1,13 @@
 -- The calls of src/calendar.rs on numbers, and the open call: docs/SCOPE.md [trading-day], [is-holiday], [trading-hours],
 -- [is-open]. Assumes nothing.
-use Rattle.std.specs.Prelude.{ℕ, true, ◌&&◌, Result, Ok, Err}
+use Rattle.std.specs.Prelude.{ℕ, true, ◌&&◌, Result, Ok, Err, Bool}
 use Rattle.gregorian.specs.Calendar.{date}
 use Rattle.markets.specs.Markets.{is_trading_day, is_holiday}
 use Rattle.schedule.specs.Schedule.{is_open_at}
 use Rattle.schedule.specs.MarketHours.{trading_hours}
 use Rattle.checks.specs.Checks.{is_time, checked_day, try_day, supported_day}
 use Rattle.error.specs.declared.CalendarError.{CalendarError}
+use Rattle.schedule.specs.declared.TradingHours.{TradingHours}
 
 -- is_trading_day
 abbrev pub is_trading_day_result : ℕ → ℕ → ℕ → ℕ → Result Bool CalendarError

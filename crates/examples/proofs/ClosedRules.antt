@@ -24,6 +24,7 @@ use Rattle.range_calls.specs.RangeCalls.{distance_of, trading_day, trading_day_r
 use Rattle.answers.specs.declared.OptionalDate.{OptionalDate}
 use Rattle.answers.specs.Answers.{optional_date}
 use Rattle.error.specs.declared.CalendarError.{CalendarError}
+use Rattle.range_calls.specs.declared.TradingDay.{TradingDay}
 
 -- ---- holidays and trading days
 

@@ -21,6 +21,7 @@ use Rattle.answers.specs.Answers.{flag_of, bool_answer, trading_day_answer, coun
 use Rattle.examples.specs.Examples.{Example, CalculateEaster, IsTradingDay, IsHoliday, NextTradingDay, CountTradingDays, Holds, examples, month_first_examples, ExamplesHold}
 use Rattle.examples.proofs.ClosedRules.{holiday_rule, trading_rule, closed_optional, closed_next_result}
 use Rattle.error.specs.declared.CalendarError.{CalendarError}
+use Rattle.range_calls.specs.declared.TradingDay.{TradingDay}
 
 -- ---- the answers, by any rule in the place of the market's
 

@@ -16,6 +16,7 @@ use Rattle.checks.specs.Checks.{checked_room, final_buffer}
 use Rattle.checks.proofs.CheckLaws.{room-checked}
 use Rattle.orders.specs.Slices.{tabulate, slice, slices_of, slices, slice_days, sliced_by, slice_result, slice_buffer}
 use Rattle.error.specs.declared.CalendarError.{CalendarError}
+use Rattle.orders.specs.declared.Slicing.{Slicing}
 
 -- ---- the days
 

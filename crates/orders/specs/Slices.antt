@@ -3,6 +3,7 @@ use Rattle.std.specs.Prelude.{ℕ, zero, suc, ◌+◌, ◌/◌, ◌%◌, cond, L
 use Rattle.error.specs.declared.CalendarError.TheVariants.{NoTradingDayInRange}
 use Rattle.checks.specs.Checks.{checked_room, final_buffer}
 use Rattle.error.specs.declared.CalendarError.{CalendarError}
+use Rattle.orders.specs.declared.Slicing.{Slicing}
 
 -- ---- the slices
 

@@ -13,6 +13,8 @@ use Rattle.range_calls.specs.RangeCalls.{distance_of, trading_day, trading_day_r
 use Rattle.range_calls.specs.Inner.{result_at}
 use Rattle.checks.proofs.CheckLaws.{past-day, day-passes}
 use Rattle.error.specs.declared.CalendarError.{CalendarError}
+use Rattle.range_calls.specs.declared.TradingDay.{TradingDay}
+use Rattle.gregorian.specs.declared.days.CalendarDay.{CalendarDay}
 
 -- The distance to a later day, and to an earlier one.
 module _ (n m r : ℕ) where

@@ -6,6 +6,7 @@ use Rattle.market_sets.specs.MarketSets.{is_common_trading_day, found_on}
 use Rattle.market_sets.proofs.SetLaws.{set-passes, no-set}
 use Rattle.market_sets.proofs.common_trading_day.Goals as goal
 use Rattle.error.specs.declared.CalendarError.{CalendarError}
+use Rattle.gregorian.specs.declared.Date.{Date}
 
 pub returns-then-not-is_set : goal.returns-then-not-is_set
 returns-then-not-is_set c = past-range-error _ _ _ _ (sym (no-set _ _ _ (sym c.is_market_set-is_set.ensures ∙ c.if-not-is_set.true)))
