@@ -16,7 +16,7 @@ use Rattle.error.specs.declared.CalendarError.TheVariants.{InvalidMarketSet, NoT
 use Rattle.error.specs.Errors.{error_fields}
 use Rattle.error.proofs.ErrorLaws.{error-number}
 use Rattle.answers.specs.declared.counts.CountAnswer.{CountAnswer}
-use Rattle.checks.specs.Checks.{try_range}
+use Rattle.error.specs.Errors.{result_and_then}
 use Rattle.market_sets.specs.MarketSets.{is_common_trading_day, checked_set_range, found_on}
 use Rattle.market_sets.specs.Inner.{first_common_day_result}
 use Rattle.orders.specs.Slices.{slice_result, slice_buffer}
@@ -106,7 +106,7 @@ module _ (markets : ℕ) (start end : Date) (r : OptionalDateAnswer) where
   pub first-is-right : r ≡ optional_date_answer (first_common_day_result markets start end) → CommonTradingDay markets start end r
   first-is-right q = by (checked_set_range markets start end) q
     where
-      by : (c : Result (ℕ × ℕ) CalendarError) → r ≡ optional_date_answer (try_range c Err (λ a b. found_on (find (is_common_trading_day markets) (days a b))))
+      by : (c : Result (ℕ × ℕ) CalendarError) → r ≡ optional_date_answer (result_and_then c (λ (a, b). found_on (find (is_common_trading_day markets) (days a b))))
           → CommonDayPast markets c r
       by (Ok (a, b)) p = (find (is_common_trading_day markets) (days a b), finds-some (is_common_trading_day markets) a b, p)
       by (Err e) p = p

@@ -6,6 +6,7 @@ use Rattle.gregorian.specs.Calendar.{is_date, date, day_number, is_date_of, numb
 use Rattle.markets.specs.Markets.{is_market}
 use Rattle.markets.specs.Years.{min_year, max_year, is_supported}
 use Rattle.buffers.specs.Buffers.{overwrite}
+use Rattle.error.specs.Errors.{result_and_then}
 use Rattle.error.specs.declared.CalendarError.{CalendarError}
 use Rattle.error.specs.declared.CalendarError.TheVariants.{UnknownMarket, InvalidDate, TimeOutOfRange, DateOutOfRange, InvalidDateCalculation, BufferTooSmall}
 
@@ -22,15 +23,10 @@ checked_day market year month day =
     (cond (not (is_date year month day)) (Err InvalidDate)
     (Ok (day_number year month day)))
 
--- the Rust's `?`, and what follows it: an error is handed on
-abbrev pub try_day : {A : Type 0} → Result ℕ CalendarError → (CalendarError → A) → (ℕ → A) → A
-try_day (Ok n) error rest = rest n
-try_day (Err e) error rest = error e
-
 -- errors 8, 5, 7 and 1, or the day number; `time_in_range` is true for a call that takes no time
 unfoldable pub supported_day : ℕ → ℕ → ℕ → ℕ → Bool → Result ℕ CalendarError
 supported_day market year month day time_in_range =
-    try_day (checked_day market year month day) Err
+    result_and_then (checked_day market year month day)
     (λ n. cond (not time_in_range) (Err TimeOutOfRange)
     (cond (not (is_supported year)) (Err (DateOutOfRange (date year month day)))
     (Ok n)))
@@ -53,11 +49,6 @@ checked_month market year month =
     (cond (not (is_month month)) (Err InvalidDateCalculation)
     (Ok tt)))
 
--- `?`, as for a day
-abbrev pub try_month : {A : Type 0} → Result (Unit {0}) CalendarError → (CalendarError → A) → A → A
-try_month (Ok tt) error rest = rest
-try_month (Err e) error rest = error e
-
 -- ---- a range of dates
 
 -- [count]: the rule of the years, by the start's and the end's
@@ -72,11 +63,6 @@ checked_range start end =
     (cond (not (is_date_of end)) (Err InvalidDate)
     (cond (leaves_years start.year end.year) (Err (DateOutOfRange start))
     (Ok (number start, number end))))
-
--- `?`, as for a day
-abbrev pub try_range : {A : Type 0} → Result (ℕ × ℕ) CalendarError → (CalendarError → A) → (ℕ → ℕ → A) → A
-try_range (Ok (start, end)) error rest = rest start end
-try_range (Err e) error rest = error e
 
 -- ---- a buffer for entries, be they bytes or numbers
 

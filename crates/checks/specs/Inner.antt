@@ -3,5 +3,5 @@ use Rattle.std.specs.Prelude.{Result, Ok, Err, ℕ}
 use Rattle.error.specs.declared.CalendarError.{CalendarError}
 
 abbrev pub check_of : Result (ℕ × ℕ) CalendarError → Result (Unit {0}) CalendarError
-check_of (Ok (start, end)) = (Ok tt)
+check_of (Ok (start, end)) = Ok tt
 check_of (Err e) = Err e

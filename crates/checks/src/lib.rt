@@ -41,22 +41,24 @@ pub fn checked_day(market: u32, year: u32, month: u32, day: u32) -> Result<u32, 
 
 // Errors 8, 5, 7 and 1. A call that takes no time has none out of range.
 #[tactic(auto, unfolding(crate::specs::Checks::supported_day))]
-pub fn supported_day(market: u32, year: u32, month: u32, day: u32, time_in_range: bool) -> Result<u32, CalendarError>
+pub fn supported_day(
+    market: u32,
+    year: u32,
+    month: u32,
+    day: u32,
+    time_in_range: bool,
+) -> Result<u32, CalendarError>
     ensures { result ≡ supported_day market year month day time_in_range }
 {
     let is_supported = is_supported(year);
-    match checked_day(market, year, month, day) {
-        Ok(n) => {
-            if !time_in_range {
-                return Err(CalendarError::TimeOutOfRange);
-            }
-            if !is_supported {
-                return Err(CalendarError::DateOutOfRange(Date { year, month, day }));
-            }
-            Ok(n)
-        }
-        Err(e) => Err(e),
+    let n = checked_day(market, year, month, day)?;
+    if !time_in_range {
+        return Err(CalendarError::TimeOutOfRange);
     }
+    if !is_supported {
+        return Err(CalendarError::DateOutOfRange(Date { year, month, day }));
+    }
+    Ok(n)
 }
 
 #[tactic(auto, unfolding(crate::specs::Checks::is_month))]

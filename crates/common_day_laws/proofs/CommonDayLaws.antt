@@ -17,7 +17,8 @@ use Rattle.ranges.proofs.Lists.{test, clash}
 use Rattle.ranges.proofs.StepLaws.{last_some}
 use Rattle.ranges.proofs.Counts.{none-counted, one-counted}
 use Rattle.error.specs.declared.CalendarError.TheVariants.{InvalidMarketSet}
-use Rattle.checks.specs.Checks.{checked_range, try_range}
+use Rattle.checks.specs.Checks.{checked_range}
+use Rattle.error.specs.Errors.{result_and_then}
 use Rattle.checks.proofs.CheckLaws.{CheckedRange, range-checked, supported-passes}
 use Rattle.range_calls.proofs.CountLaws.{count-of-dates}
 use Rattle.market_sets.specs.MarketSets.{is_market_set, is_common_trading_day, checked_set_range, found_on}
@@ -195,7 +196,7 @@ module _ (markets : ℕ) (start end : Date) (r : OptionalDateAnswer) (w : Common
   -- the dates as the count call checks them
   module _ (market : ℕ) (set : is_market_set markets ≡ true) (known : is_market market ≡ true) where
     abbrev counts : Result (ℕ × ℕ) CalendarError → CountAnswer
-    counts c = count_answer (try_range c Err (λ a b. Ok (count_trading_days (is_trading_day market) a b)))
+    counts c = count_answer (result_and_then c (λ (a, b). Ok (count_trading_days (is_trading_day market) a b)))
 
     by-dates : count_call market start end ≡ counts (checked_range start end)
     by-dates = simp known
@@ -253,7 +254,7 @@ last-is-right : (markets : ℕ) (start end : Date) → CommonTradingDay markets 
 last-is-right markets start end = by (checked_set_range markets start end) refl
   where
     by : (c : Result (ℕ × ℕ) CalendarError) → checked_set_range markets start end ≡ c
-        → CommonDayPast markets c (optional_date_answer (try_range c Err (λ a b. found_on (previous_trading_day (is_common_trading_day markets) a (suc b)))))
+        → CommonDayPast markets c (optional_date_answer (result_and_then c (λ (a, b). found_on (previous_trading_day (is_common_trading_day markets) a (suc b)))))
     by (Ok (a, b)) q =
         let low = (range-checked start end a b (set-checked markets start end a b q).1).same.low in
         (previous_trading_day (is_common_trading_day markets) a (suc b), last_some (is_common_trading_day markets) a b low, refl)

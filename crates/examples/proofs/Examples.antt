@@ -12,7 +12,8 @@ use Rattle.markets.specs.Years.{is_supported, last_day_of}
 use Rattle.ranges.specs.Ranges.{days_from, Every, count_from, count_trading_days}
 use Rattle.error.specs.declared.CalendarError.TheVariants.{UnknownMarket}
 use Rattle.error.specs.Errors.{error_fields}
-use Rattle.checks.specs.Checks.{checked_day, try_day, supported_day, leaves_years, checked_range, try_range}
+use Rattle.checks.specs.Checks.{checked_day, supported_day, leaves_years, checked_range}
+use Rattle.error.specs.Errors.{result_and_then}
 use Rattle.range_calls.specs.RangeCalls.{distance_of}
 use Rattle.answers.specs.declared.BoolAnswer.{BoolAnswer}
 use Rattle.answers.specs.declared.neighbouring_days.TradingDayAnswer.{TradingDayAnswer}
@@ -27,16 +28,16 @@ use Rattle.range_calls.specs.declared.TradingDay.{TradingDay}
 
 abbrev bool_by : ℕ → Date → (ℕ → Bool) → BoolAnswer
 bool_by market t rule =
-    bool_answer (try_day (supported_day market t.year t.month t.day true) Err (λ n. Ok (rule n)))
+    bool_answer (result_and_then (supported_day market t.year t.month t.day true) (λ n. Ok (rule n)))
 
 abbrev next_by : ℕ → Date → (ℕ → Result TradingDay CalendarError) → TradingDayAnswer
-next_by market t next = trading_day_answer (try_day (checked_day market t.year t.month t.day) Err next)
+next_by market t next = trading_day_answer (result_and_then (checked_day market t.year t.month t.day) next)
 
 abbrev count_by : ℕ → Date → Date → (ℕ → Bool) → CountAnswer
 count_by market s t trades =
     count_answer
     (cond (not (is_market market)) (Err UnknownMarket)
-    (try_range (checked_range s t) Err (λ start end. Ok (count_trading_days trades start end))))
+    (result_and_then (checked_range s t) (λ (start, end). Ok (count_trading_days trades start end))))
 
 -- ---- the test
 

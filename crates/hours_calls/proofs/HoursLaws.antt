@@ -7,7 +7,7 @@ use Rattle.gregorian.specs.Calendar.{is_date_of}
 use Rattle.error.specs.declared.CalendarError.{CalendarError}
 use Rattle.error.specs.declared.CalendarError.TheVariants.{InvalidDate, TimeOutOfRange}
 use Rattle.schedule.specs.declared.TradingHours.{TradingHours}
-use Rattle.hours_calls.specs.HoursCalls.{hours_in_range, checked_hours, try_hours}
+use Rattle.hours_calls.specs.HoursCalls.{hours_in_range, checked_hours}
 
 module _ (hours : TradingHours) (time_in_range : Bool) where
   abbrev date-is : Bool
@@ -24,10 +24,3 @@ module _ (hours : TradingHours) (time_in_range : Bool) where
   pub checked : date-is ≡ true → (hours_in_range hours && time_in_range) ≡ true → Ok hours ≡ checked_hours hours time_in_range
   unfolding checked_hours
   checked d t = simp (d, t)
-
-module _ {A : Type 0} (error : CalendarError → A) (rest : TradingHours → A) (r : Result TradingHours CalendarError) where
-  pub past-ok : (h : TradingHours) (a : A) → Ok h ≡ r → a ≡ rest h → a ≡ try_hours r error rest
-  past-ok h a q e = e ∙ ap (λ (x : Result TradingHours CalendarError). try_hours x error rest) q
-
-  pub past-error : (e : CalendarError) → Err e ≡ r → error e ≡ try_hours r error rest
-  past-error e q = ap (λ (x : Result TradingHours CalendarError). try_hours x error rest) q

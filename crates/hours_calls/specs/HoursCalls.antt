@@ -2,6 +2,7 @@
 use Rattle.std.specs.Prelude.{ℕ, Bool, true, cond, not, ◌&&◌, Option, Some, None, Result, Ok, Err}
 use Rattle.gregorian.specs.declared.Date.{Date}
 use Rattle.gregorian.specs.Calendar.{is_date_of}
+use Rattle.error.specs.Errors.{result_and_then}
 use Rattle.error.specs.declared.CalendarError.{CalendarError}
 use Rattle.error.specs.declared.CalendarError.TheVariants.{InvalidDate, TimeOutOfRange}
 use Rattle.schedule.specs.declared.Session.{Session}
@@ -38,11 +39,6 @@ checked_hours hours time_in_range =
     (cond (not (hours_in_range hours && time_in_range)) (Err TimeOutOfRange)
     (Ok hours))
 
--- the Rust's `?`, and what follows it: an error is handed on
-abbrev pub try_hours : {A : Type 0} → Result TradingHours CalendarError → (CalendarError → A) → (TradingHours → A) → A
-try_hours (Ok hours) error rest = rest hours
-try_hours (Err e) error rest = error e
-
 -- Session::new
 unfoldable pub session_new_result : ℕ → ℕ → Result Session CalendarError
 session_new_result start end = cond (not (session_in_range (session start end))) (Err TimeOutOfRange) (session_new start end)
@@ -58,17 +54,17 @@ trading_hours_new_result date regular pre after = checked_hours (hours_new date 
 
 -- TradingHours::with_early_close
 abbrev pub with_early_close_result : TradingHours → ℕ → Result TradingHours CalendarError
-with_early_close_result hours time = try_hours (checked_hours hours (is_time time)) Err (λ h. with_early_close h time)
+with_early_close_result hours time = result_and_then (checked_hours hours (is_time time)) (λ h. with_early_close h time)
 
 -- TradingHours::is_early_close
 abbrev pub is_early_close_result : TradingHours → Result Bool CalendarError
-is_early_close_result hours = try_hours (checked_hours hours true) Err (λ h. Ok (is_early_close h))
+is_early_close_result hours = result_and_then (checked_hours hours true) (λ h. Ok (is_early_close h))
 
 -- TradingHours::market_close
 abbrev pub market_close_result : TradingHours → Result ℕ CalendarError
-market_close_result hours = try_hours (checked_hours hours true) Err (λ h. Ok (market_close h))
+market_close_result hours = result_and_then (checked_hours hours true) (λ h. Ok (market_close h))
 
 -- TradingHours::is_open_at
 abbrev pub is_open_at_result : TradingHours → ℕ → Result Bool CalendarError
 is_open_at_result hours time =
-    try_hours (checked_hours hours (is_time time)) Err (λ h. Ok (is_open_at h time))
+    result_and_then (checked_hours hours (is_time time)) (λ h. Ok (is_open_at h time))

@@ -9,7 +9,8 @@ use lib.ListN.{length}
 use Rattle.markets.specs.Markets.{is_market}
 use Rattle.markets.specs.Years.{is_supported}
 use Rattle.trading_days.specs.Month.{month_list}
-use Rattle.checks.specs.Checks.{checked_month, try_month, checked_room, final_buffer}
+use Rattle.checks.specs.Checks.{checked_month, checked_room, final_buffer}
+use Rattle.error.specs.Errors.{result_and_then}
 use Rattle.checks.proofs.CheckLaws.{month-passes}
 use Rattle.range_calls.specs.RangeCalls.{trading_days_in_month_result, trading_days_in_month_buffer}
 use Rattle.error.specs.declared.CalendarError.{CalendarError}
@@ -20,7 +21,7 @@ module _ (market year month : ℕ) (buffer : List ℕ) where
 
   -- what follows the check
   abbrev follow : Result (Unit {0}) CalendarError → Result ℕ CalendarError
-  follow check = try_month check Err (checked_room (length days) (length buffer))
+  follow check = result_and_then check (λ _. checked_room (length days) (length buffer))
 
   -- the answer and the final buffer, by what the check came to
   pub month-by-check : (check : Result (Unit {0}) CalendarError) (r : Result ℕ CalendarError) (final : List ℕ) → check ≡ checked_month market year month → r ≡ follow check → final ≡ final_buffer r days buffer

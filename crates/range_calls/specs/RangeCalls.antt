@@ -8,7 +8,8 @@ use Rattle.ranges.specs.Ranges.{next_trading_day, previous_trading_day, count_tr
 use Rattle.trading_days.specs.Month.{month_list}
 use Rattle.error.specs.declared.CalendarError.TheVariants.{UnknownMarket, NoTradingDayFound}
 use Rattle.range_calls.specs.declared.TradingDay.{TradingDay}
-use Rattle.checks.specs.Checks.{checked_day, try_day, checked_month, try_month, checked_range, try_range, checked_room, final_buffer}
+use Rattle.checks.specs.Checks.{checked_day, checked_month, checked_range, checked_room, final_buffer}
+use Rattle.error.specs.Errors.{result_and_then}
 use Rattle.error.specs.declared.CalendarError.{CalendarError}
 
 -- ---- next and previous
@@ -30,7 +31,7 @@ trading_day_result year n None = Err NoTradingDayFound
 -- errors 8 and 5, and then the neighbour of the day
 abbrev pub neighbour_result : (ℕ → Option ℕ) → ℕ → ℕ → ℕ → ℕ → Result TradingDay CalendarError
 neighbour_result neighbour market year month day =
-    try_day (checked_day market year month day) Err (λ n. trading_day_result year n (neighbour n))
+    result_and_then (checked_day market year month day) (λ n. trading_day_result year n (neighbour n))
 
 -- next_trading_day
 abbrev pub next_trading_day_result : ℕ → ℕ → ℕ → ℕ → Result TradingDay CalendarError
@@ -45,7 +46,7 @@ previous_trading_day_result market = neighbour_result (previous_trading_day (is_
 -- trading_days_in_month: errors 8, 1, 2 and 9
 unfoldable pub trading_days_in_month_result : ℕ → ℕ → ℕ → List ℕ → Result ℕ CalendarError
 trading_days_in_month_result market year month buffer =
-    try_month (checked_month market year month) Err (checked_room (length (month_list market year month)) (length buffer))
+    result_and_then (checked_month market year month) (λ _. checked_room (length (month_list market year month)) (length buffer))
 
 abbrev pub trading_days_in_month_buffer : ℕ → ℕ → ℕ → List ℕ → List ℕ
 trading_days_in_month_buffer market year month buffer =
@@ -57,5 +58,5 @@ trading_days_in_month_buffer market year month buffer =
 abbrev pub count_trading_days_result : ℕ → ℕ → ℕ → ℕ → ℕ → ℕ → ℕ → Result ℕ CalendarError
 count_trading_days_result market start_year start_month start_day end_year end_month end_day =
     cond (not (is_market market)) (Err UnknownMarket)
-    (try_range (checked_range (date start_year start_month start_day) (date end_year end_month end_day)) Err
-    (λ start end. Ok (count_trading_days (is_trading_day market) start end)))
+    (result_and_then (checked_range (date start_year start_month start_day) (date end_year end_month end_day))
+    (λ (start, end). Ok (count_trading_days (is_trading_day market) start end)))

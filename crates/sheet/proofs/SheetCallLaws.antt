@@ -9,7 +9,8 @@ use native.Mathlib.Omega.{arith}
 use Rattle.markets.proofs.MarketLaws.{market-code}
 use Rattle.markets.proofs.YearLaws.{supported-years}
 use Rattle.trading_days.specs.Month.{month_list}
-use Rattle.checks.specs.Checks.{checked_month, try_month, checked_room, final_buffer}
+use Rattle.checks.specs.Checks.{checked_month, checked_room, final_buffer}
+use Rattle.error.specs.Errors.{result_and_then}
 use Rattle.checks.proofs.CheckLaws.{CheckedMonth, month-checked}
 use Rattle.sheet_lines.specs.Sheet.{sheet_text, month_sheet}
 use Rattle.sheet_lines.proofs.SheetLength.{sheet-length}
@@ -19,7 +20,7 @@ use Rattle.error.specs.declared.CalendarError.{CalendarError}
 module _ (market year month : ℕ) where
   -- what follows the check
   abbrev follow : Result (Unit {0}) CalendarError → Result (List ℕ) CalendarError
-  follow check = try_month check Err (Ok (month_sheet market year month))
+  follow check = result_and_then check (λ _. Ok (month_sheet market year month))
 
   pub sheet-by-check : (check : Result (Unit {0}) CalendarError) → checked_month market year month ≡ check → sheet_of_month market year month ≡ follow check
   unfolding sheet_of_month

@@ -2,14 +2,15 @@
 use Rattle.std.specs.Prelude.{ℕ, List, length, Result, Ok, Err}
 use Rattle.error.specs.declared.CalendarError.{CalendarError}
 use Rattle.error.specs.declared.CalendarError.TheVariants.{MalformedText}
-use Rattle.checks.specs.Checks.{checked_month, try_month, checked_room, final_buffer}
+use Rattle.checks.specs.Checks.{checked_month, checked_room, final_buffer}
+use Rattle.error.specs.Errors.{result_and_then}
 use Rattle.request.specs.declared.Request.{Request}
 use Rattle.request.specs.Request.{read_request}
 use Rattle.sheet_lines.specs.Sheet.{month_sheet}
 
 -- the sheet of a month, or the first of errors 8, 1 and 2 that applies
 unfoldable pub sheet_of_month : ℕ → ℕ → ℕ → Result (List ℕ) CalendarError
-sheet_of_month market year month = try_month (checked_month market year month) Err (Ok (month_sheet market year month))
+sheet_of_month market year month = result_and_then (checked_month market year month) (λ _. Ok (month_sheet market year month))
 
 -- the sheet that is asked for; error 10 where the text asks for none
 abbrev pub sheet_of_request : Request → Result (List ℕ) CalendarError
