@@ -32,7 +32,7 @@ slice_days count room = cond (eqb count 0) (Err NoTradingDayInRange) (checked_ro
 
 -- the days, the shares per day and the remainder
 abbrev pub sliced_by : ℕ → Result ℕ CalendarError → Result Slicing CalendarError
-sliced_by quantity (Ok n) = Ok n (quantity / n) (quantity % n)
+sliced_by quantity (Ok n) = Ok (record { count = n; per_day = quantity / n; remainder = quantity % n })
 sliced_by quantity (Err e) = Err e
 
 unfoldable pub slice_result : ℕ → ℕ → List ℕ → Result Slicing CalendarError

@@ -8,6 +8,14 @@ ghost use Rattle.orders.specs.Slices.{slices_of, slice_days, slice_result, slice
 use checks::checked_room;
 use error::CalendarError;
 
+// How many days the order is sliced over, the shares of each, and how many shares are left, of which the first days carry one each.
+#[derive(Clone, Copy)]
+pub struct Slicing {
+    pub count: u32,
+    pub per_day: u32,
+    pub remainder: u32,
+}
+
 // Errors 11 and 9, or the number of days.
 #[tactic(auto, unfolding(crate::specs::Slices::slice_days))]
 fn slice_days(count: u32, room: usize) -> Result<u32, CalendarError>
@@ -34,17 +42,13 @@ pub fn slice_order(quantity: u32, count: u32, out: &mut [u32]) -> Result<Slicing
     ensures { (result ≡ slice_result quantity count out.old)
         × (out.new ≡ slice_buffer quantity count out.old) }
 {
-    match slice_days(count, out.len()) {
-        Ok(days) => {
-            let per_day = quantity / days;
-            let remainder = quantity % days;
-            write_slices(per_day, remainder as usize, days as usize, out);
-            Ok {
-                count: days,
-                per_day,
-                remainder,
-            }
-        }
-        Err(e) => Err(e),
-    }
+    let days = slice_days(count, out.len())?;
+    let per_day = quantity / days;
+    let remainder = quantity % days;
+    write_slices(per_day, remainder as usize, days as usize, out);
+    Ok(Slicing {
+        count: days,
+        per_day,
+        remainder,
+    })
 }

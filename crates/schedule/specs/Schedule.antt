@@ -1,6 +1,6 @@
 -- Sessions and trading hours, as src/schedule.rs has them, on any numbers: docs/SCOPE.md [hours-record], [session-new] to
 -- [is-open-at]. Assumes nothing.
-use Rattle.std.specs.Prelude.{ℕ, Bool, true, false, cond, ◌&&◌, ◌||◌, ltb, leb, eqb, Option, Some, None, Result, Ok, Err}
+use Rattle.std.specs.Prelude.{unwrap_or, is_some, ℕ, Bool, true, false, cond, ◌&&◌, ◌||◌, ltb, leb, eqb, Option, Some, None, Result, Ok, Err}
 use Rattle.gregorian.specs.declared.Date.{Date}
 use Rattle.error.specs.declared.CalendarError.TheVariants.{InvalidSession, InvalidTime}
 use Rattle.schedule.specs.declared.Session.{Session}
@@ -34,16 +34,6 @@ may_contain None time = false
 abbrev pub is_reached : Option ℕ → ℕ → Bool
 is_reached (Some close) time = leb close time
 is_reached None time = true
-
--- `early_close.unwrap_or(end)`
-abbrev pub unwrap_or : Option ℕ → ℕ → ℕ
-unwrap_or (Some time) end = time
-unwrap_or None end = end
-
--- `early_close.is_some()`
-abbrev pub is_some : Option ℕ → Bool
-is_some (Some time) = true
-is_some None = false
 
 -- the hours with this early close
 abbrev pub set_early_close : TradingHours → Option ℕ → TradingHours
