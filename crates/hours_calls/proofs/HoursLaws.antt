@@ -1,10 +1,9 @@
 -- The laws of the checks: what each case answers, and what becomes of the hours or of the error.
 -- Assumes nothing.
-use Rattle.std.proofs.Common.{Result, Ok, Err}
-use mathlib.Core.Path.{◌≡◌, ap, ◌∙◌}
+use Rattle.std.proofs.Common.{Ok, Err}
+use mathlib.Core.Path.{◌≡◌}
 use mathlib.Core.Bool.{Bool, true, false, ◌&&◌}
 use Rattle.gregorian.specs.Calendar.{is_date_of}
-use Rattle.error.specs.declared.CalendarError.{CalendarError}
 use Rattle.error.specs.declared.CalendarError.TheVariants.{InvalidDate, TimeOutOfRange}
 use Rattle.schedule.specs.declared.TradingHours.{TradingHours}
 use Rattle.hours_calls.specs.HoursCalls.{hours_in_range, checked_hours}

@@ -2,7 +2,7 @@
 #![tactic(auto)]
 
 ghost use Rattle.std.specs.Prelude.{◌≡◌};
-ghost use Rattle.hours_calls.specs.HoursCalls.{session_in_range, optional_session_in_range, optional_time_in_range, hours_in_range, checked_hours};
+ghost use Rattle.hours_calls.specs.HoursCalls.{session_in_range, hours_in_range, checked_hours};
 ghost use Rattle.hours_calls.specs.HoursCalls.{session_new_result, session_contains_result, trading_hours_new_result, with_early_close_result};
 ghost use Rattle.hours_calls.specs.HoursCalls.{is_early_close_result, market_close_result, is_open_at_result};
 
@@ -11,43 +11,22 @@ use error::CalendarError;
 use gregorian::Date;
 use schedule::{Session, TradingHours};
 
-// Whether each number is a time; an absent part has none.
+// Whether each number is a time.
 fn session_in_range(session: Session) -> bool
     ensures { result ≡ session_in_range session }
 {
     is_time(session.start) & is_time(session.end)
 }
 
-fn optional_session_in_range(session: Option<Session>) -> bool
-    ensures { result ≡ optional_session_in_range session }
-{
-    match session {
-        Some(session) => session_in_range(session),
-        None => true,
-    }
-}
-
-fn optional_time_in_range(time: Option<u32>) -> bool
-    ensures { result ≡ optional_time_in_range time }
-{
-    match time {
-        Some(time) => is_time(time),
-        None => true,
-    }
-}
-
+// The same of a record, of which an absent part has none.
 #[tactic(auto, unfolding(crate::specs::HoursCalls::hours_in_range))]
 fn hours_in_range(hours: TradingHours) -> bool
     ensures { result ≡ hours_in_range hours }
 {
-    let pre_market = hours.pre_market;
-    let regular = hours.regular;
-    let after_hours = hours.after_hours;
-    let early_close = hours.early_close;
-    optional_session_in_range(pre_market)
-        & session_in_range(regular)
-        & optional_session_in_range(after_hours)
-        & optional_time_in_range(early_close)
+    hours.pre_market.is_none_or(session_in_range)
+        & session_in_range(hours.regular)
+        & hours.after_hours.is_none_or(session_in_range)
+        & hours.early_close.is_none_or(is_time)
 }
 
 // [errors]: the first of 5 and 7 that applies, or the hours. A call that takes no time has none out of range.
@@ -108,38 +87,26 @@ pub fn trading_hours_new(
 pub fn with_early_close(hours: TradingHours, time: u32) -> Result<TradingHours, CalendarError>
     ensures { result ≡ with_early_close_result hours time }
 {
-    match checked_hours(hours, is_time(time)) {
-        Ok(hours) => hours.with_early_close(time),
-        Err(e) => Err(e),
-    }
+    checked_hours(hours, is_time(time))?.with_early_close(time)
 }
 
 // [is-early-close]
 pub fn is_early_close(hours: TradingHours) -> Result<bool, CalendarError>
     ensures { result ≡ is_early_close_result hours }
 {
-    match checked_hours(hours, true) {
-        Ok(hours) => Ok(hours.is_early_close()),
-        Err(e) => Err(e),
-    }
+    Ok(checked_hours(hours, true)?.is_early_close())
 }
 
 // [market-close]
 pub fn market_close(hours: TradingHours) -> Result<u32, CalendarError>
     ensures { result ≡ market_close_result hours }
 {
-    match checked_hours(hours, true) {
-        Ok(hours) => Ok(hours.market_close()),
-        Err(e) => Err(e),
-    }
+    Ok(checked_hours(hours, true)?.market_close())
 }
 
 // [is-open-at]
 pub fn is_open_at(hours: TradingHours, time: u32) -> Result<bool, CalendarError>
     ensures { result ≡ is_open_at_result hours time }
 {
-    match checked_hours(hours, is_time(time)) {
-        Ok(hours) => Ok(hours.is_open_at(time)),
-        Err(e) => Err(e),
-    }
+    Ok(checked_hours(hours, is_time(time))?.is_open_at(time))
 }
