@@ -2,6 +2,7 @@
 ghost use Rattle.std.specs.Prelude.{◌≡◌};
 ghost use Rattle.answers.specs.Answers.{count_answer};
 
+use error::CalendarError;
 use gregorian::{Date, NO_DATE};
 
 // tc_count_result of the header, [host-answers]: error is 0 and count is the answer; or error is a number of [errors], count the

@@ -14,6 +14,7 @@ ghost use Rattle.utils.specs.Inner.{day_of_nth, NthInYears};
 ghost use Rattle.utils.specs.Easter.{calculate_easter};
 ghost use Rattle.answers.specs.Answers.{optional_date, flag_of, bool_answer};
 
+use error::CalendarError;
 use gregorian::{Date, NO_DATE};
 use utils::NthWeekday;
 use utils::easter::easter_days;

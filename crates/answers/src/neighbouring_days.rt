@@ -2,6 +2,8 @@
 ghost use Rattle.std.specs.Prelude.{◌≡◌};
 ghost use Rattle.answers.specs.Answers.{trading_day_answer};
 
+use range_calls::TradingDay;
+use error::CalendarError;
 use crate::flag;
 use gregorian::Date;
 

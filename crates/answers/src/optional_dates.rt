@@ -2,6 +2,7 @@
 ghost use Rattle.std.specs.Prelude.{◌≡◌};
 ghost use Rattle.answers.specs.Answers.{optional_date_answer};
 
+use error::CalendarError;
 use gregorian::{Date, NO_DATE};
 
 // tc_optional_date_result of the header, [host-answers]: error is 0, and found is 1 and date is the answer, or both are 0; or error is a

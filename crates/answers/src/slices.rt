@@ -3,6 +3,8 @@ ghost use Rattle.std.specs.Prelude.{◌≡◌};
 ghost use Rattle.answers.specs.Answers.{slice_answer};
 ghost use Rattle.answers.specs.SliceCall.{slice_order_answer, slice_order_buffer};
 
+use orders::Slicing;
+use error::CalendarError;
 use crate::counts::CountAnswer;
 use gregorian::{Date, NO_DATE};
 

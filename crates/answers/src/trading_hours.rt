@@ -2,8 +2,9 @@
 ghost use Rattle.std.specs.Prelude.{◌≡◌};
 ghost use Rattle.answers.specs.Answers.{time_answer, session_answer, hours_answer};
 
+use error::CalendarError;
 use crate::records::{Hours, NO_HOURS, NO_SESSION, hours_of};
-use schedule::Session;
+use schedule::{Session, TradingHours};
 
 // tc_time_result, tc_session_result and tc_hours_result of the header, [host-answers]: error is 0 and the other field is the
 // answer; or error is a number of [errors], and every other field is 0.

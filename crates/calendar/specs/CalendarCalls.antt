@@ -1,6 +1,6 @@
 -- The calls of src/calendar.rs on numbers, and the open call: docs/SCOPE.md [trading-day], [is-holiday], [trading-hours],
 -- [is-open]. Assumes nothing.
-use Rattle.std.specs.Prelude.{ℕ, true, ◌&&◌, Result, Ok, Err, Bool}
+use Rattle.std.specs.Prelude.{ℕ, true, ◌&&◌, Result, Ok, Bool}
 use Rattle.gregorian.specs.Calendar.{date}
 use Rattle.markets.specs.Markets.{is_trading_day, is_holiday}
 use Rattle.schedule.specs.Schedule.{is_open_at}

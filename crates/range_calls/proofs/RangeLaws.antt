@@ -11,7 +11,8 @@ use Rattle.neighbours.specs.Inner.{neighbour_of}
 use Rattle.checks.specs.Checks.{checked_day}
 use Rattle.range_calls.specs.RangeCalls.{distance_of, trading_day, trading_day_result, neighbour_result}
 use Rattle.range_calls.specs.Inner.{result_at}
-use Rattle.checks.proofs.CheckLaws.{past-day, day-passes}
+use Rattle.error.proofs.ErrorLaws.{past-ok}
+use Rattle.checks.proofs.CheckLaws.{day-passes}
 use Rattle.error.specs.declared.CalendarError.{CalendarError}
 use Rattle.range_calls.specs.declared.TradingDay.{TradingDay}
 use Rattle.gregorian.specs.declared.days.CalendarDay.{CalendarDay}
@@ -37,7 +38,7 @@ pub neighbour-is : (neighbour : ℕ → Option ℕ) (market year month day n : �
     → Ok n ≡ checked_day market year month day → o ≡ neighbour_of (neighbour n) → r ≡ result_at year n o
     → r ≡ neighbour_result neighbour market year month day
 neighbour-is neighbour market year month day n o r q e f =
-    past-day Err (λ n. trading_day_result year n (neighbour n)) _ n r q (f ∙ ap (result_at year n) e ∙ result-is year n (neighbour n))
+    past-ok (λ n. trading_day_result year n (neighbour n)) _ n r q (f ∙ ap (result_at year n) e ∙ result-is year n (neighbour n))
 
 -- What a call answers on a date.
 pub neighbour-of-date : (neighbour : ℕ → Option ℕ) (market year month day : ℕ) → is_market market ≡ true → is_date year month day ≡ true

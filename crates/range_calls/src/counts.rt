@@ -19,13 +19,9 @@ fn write_days(market: u32, year: u32, month: u32, out: &mut [u8]) -> Result<u32,
 {
     let mut days = [0; LONGEST_MONTH];
     let count = trading_days::month_days(market, year, month, &mut days);
-    match checked_room(count, out.len()) {
-        Ok(n) => {
-            buffers::write(&days[0..count], out);
-            Ok(n)
-        }
-        Err(e) => Err(e),
-    }
+    let n = checked_room(count, out.len())?;
+    buffers::write(&days[..count], out);
+    Ok(n)
 }
 
 // [month-list]: how many days were written, or the first of errors 8, 1, 2 and 9 that applies.
@@ -34,10 +30,8 @@ pub fn trading_days_in_month(market: u32, year: u32, month: u32, out: &mut [u8])
     ensures { (result ≡ trading_days_in_month_result market year month out.old)
         × (out.new ≡ trading_days_in_month_buffer market year month out.old) }
 {
-    match checked_month(market, year, month) {
-        Ok(()) => write_days(market, year, month, out),
-        Err(e) => Err(e),
-    }
+    checked_month(market, year, month)?;
+    write_days(market, year, month, out)
 }
 
 // [count]: how many days trade from the start to the end, or the first of errors 8, 5 and 1 that applies.
@@ -69,12 +63,8 @@ pub fn count_trading_days(
     if !is_market {
         return Err(CalendarError::UnknownMarket);
     }
-    match checked_range(starts, ends, start, end) {
-        Ok(()) => {
-            let first = calendar_day(start_year, start_month, start_day);
-            let last = day_number(end_year, end_month, end_day);
-            Ok(trading_days::count(market, first, last))
-        }
-        Err(e) => Err(e),
-    }
+    checked_range(starts, ends, start, end)?;
+    let first = calendar_day(start_year, start_month, start_day);
+    let last = day_number(end_year, end_month, end_day);
+    Ok(trading_days::count(market, first, last))
 }

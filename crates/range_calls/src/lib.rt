@@ -46,36 +46,26 @@ fn trading_day(year: u32, n: u32, neighbour: CalendarDay) -> TradingDay
 fn trading_day_result(year: u32, n: u32, neighbour: Option<CalendarDay>) -> Result<TradingDay, CalendarError>
     ensures { result ≡ result_at year n neighbour }
 {
-    match neighbour {
-        Some(day) => Ok(trading_day(year, n, day)),
-        None => Err(CalendarError::NoTradingDayFound),
-    }
+    let day = neighbour.ok_or(CalendarError::NoTradingDayFound)?;
+    Ok(trading_day(year, n, day))
 }
 
 // [next]
 pub fn next_trading_day(market: u32, year: u32, month: u32, day: u32) -> Result<TradingDay, CalendarError>
     ensures { result ≡ next_trading_day_result market year month day }
 {
-    match checked_day(market, year, month, day) {
-        Ok(n) => {
-            let date = Date { year, month, day };
-            let from = CalendarDay { number: n, date };
-            trading_day_result(year, n, neighbours::next_trading_day(market, from))
-        }
-        Err(e) => Err(e),
-    }
+    let number = checked_day(market, year, month, day)?;
+    let date = Date { year, month, day };
+    let from = CalendarDay { number, date };
+    trading_day_result(year, number, neighbours::next_trading_day(market, from))
 }
 
 // [previous]
 pub fn previous_trading_day(market: u32, year: u32, month: u32, day: u32) -> Result<TradingDay, CalendarError>
     ensures { result ≡ previous_trading_day_result market year month day }
 {
-    match checked_day(market, year, month, day) {
-        Ok(n) => {
-            let date = Date { year, month, day };
-            let from = CalendarDay { number: n, date };
-            trading_day_result(year, n, neighbours::previous_trading_day(market, from))
-        }
-        Err(e) => Err(e),
-    }
+    let number = checked_day(market, year, month, day)?;
+    let date = Date { year, month, day };
+    let from = CalendarDay { number, date };
+    trading_day_result(year, number, neighbours::previous_trading_day(market, from))
 }
