@@ -26,7 +26,12 @@ fn write_days(market: u32, year: u32, month: u32, out: &mut [u8]) -> Result<u32,
 
 // [month-list]: how many days were written, or the first of errors 8, 1, 2 and 9 that applies.
 #[tactic(auto, unfolding(crate::specs::RangeCalls::trading_days_in_month_result))]
-pub fn trading_days_in_month(market: u32, year: u32, month: u32, out: &mut [u8]) -> Result<u32, CalendarError>
+pub fn trading_days_in_month(
+    market: u32,
+    year: u32,
+    month: u32,
+    out: &mut [u8],
+) -> Result<u32, CalendarError>
     ensures { (result ≡ trading_days_in_month_result market year month out.old)
         × (out.new ≡ trading_days_in_month_buffer market year month out.old) }
 {

@@ -43,7 +43,11 @@ fn trading_day(year: u32, n: u32, neighbour: CalendarDay) -> TradingDay
 }
 
 // Error 6 where no day was found.
-fn trading_day_result(year: u32, n: u32, neighbour: Option<CalendarDay>) -> Result<TradingDay, CalendarError>
+fn trading_day_result(
+    year: u32,
+    n: u32,
+    neighbour: Option<CalendarDay>,
+) -> Result<TradingDay, CalendarError>
     ensures { result ≡ result_at year n neighbour }
 {
     let day = neighbour.ok_or(CalendarError::NoTradingDayFound)?;
@@ -51,7 +55,12 @@ fn trading_day_result(year: u32, n: u32, neighbour: Option<CalendarDay>) -> Resu
 }
 
 // [next]
-pub fn next_trading_day(market: u32, year: u32, month: u32, day: u32) -> Result<TradingDay, CalendarError>
+pub fn next_trading_day(
+    market: u32,
+    year: u32,
+    month: u32,
+    day: u32,
+) -> Result<TradingDay, CalendarError>
     ensures { result ≡ next_trading_day_result market year month day }
 {
     let number = checked_day(market, year, month, day)?;
@@ -61,7 +70,12 @@ pub fn next_trading_day(market: u32, year: u32, month: u32, day: u32) -> Result<
 }
 
 // [previous]
-pub fn previous_trading_day(market: u32, year: u32, month: u32, day: u32) -> Result<TradingDay, CalendarError>
+pub fn previous_trading_day(
+    market: u32,
+    year: u32,
+    month: u32,
+    day: u32,
+) -> Result<TradingDay, CalendarError>
     ensures { result ≡ previous_trading_day_result market year month day }
 {
     let number = checked_day(market, year, month, day)?;
