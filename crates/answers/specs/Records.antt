@@ -1,7 +1,6 @@
 -- The hours record of the header and the one inside, each from the other: docs/SCOPE.md [host-answers]. Assumes nothing.
 use Rattle.std.specs.Prelude.{unwrap_or, ℕ, cond, eqb, Option, Some, None}
 use Rattle.gregorian.specs.Calendar.{no_date}
-use Rattle.schedule.specs.declared.Session.{Session}
 use Rattle.schedule.specs.declared.TradingHours.{TradingHours}
 use Rattle.schedule.specs.Schedule.{no_session}
 use Rattle.answers.specs.declared.records.Hours.{Hours}
