@@ -7,11 +7,11 @@ ghost use Rattle.hours_calls.specs.HoursCalls.{is_early_close_result, market_clo
 ghost use Rattle.answers.specs.Records.{optional_session, trading_hours_of};
 ghost use Rattle.answers.specs.Answers.{bool_answer, time_answer, session_answer, hours_answer};
 
+use answers::BoolAnswer;
 use answers::records::{Hours, optional};
 use answers::trading_hours::{HoursAnswer, SessionAnswer, TimeAnswer};
-use answers::BoolAnswer;
 use gregorian::Date;
-use schedule::Session;
+use schedule::{Session, TradingHours};
 
 // [trading-hours]: the hours of the date, in any year, or the first of errors 8 and 5 that applies.
 pub fn tc_trading_hours(market: u32, year: u32, month: u32, day: u32) -> HoursAnswer
