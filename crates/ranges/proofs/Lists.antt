@@ -60,6 +60,9 @@ days-none a b h = ap (days_from a) (omega arith) ∙ from-none a
 pub days-next : (a b : ℕ) → a ≤ b → days a b ≡ a ∷ days (suc a) b
 days-next a b h = ap (days_from a) (omega arith) ∙ from_next a (suc b - suc a)
 
+pub days_step : (a b : ℕ) → a ≤ b → days a b ≡ a ∷ days (a + 1) b
+days_step a b h = let one : suc a ≡ a + 1 = omega arith in days-next a b h ∙ ap (λ (i : ℕ). a ∷ days i b) one
+
 from-length : (k a : ℕ) → length (days_from a k) ≡ k
 unfolding days_from
 from-length zero a = refl

@@ -5,8 +5,9 @@ use Rattle.gregorian.proofs.DaySteps.{is-date-of, after_same}
 use Rattle.gregorian.proofs.days.day_after.Goals as goal
 
 pub date_after-requires : goal.date_after-requires
-date_after-requires c = is-date-of c.args.day
+date_after-requires c = let day = c.args.day in is-date-of _ _ day.low day.same day.high
 
 pub invariant_of-result : goal.invariant_of-result
 invariant_of-result c =
-    record { low = omega arith; high = c.requires; same = c.date_after.ensures ∙ after_same c.args.day }
+    let day = c.args.day in
+    record { low = omega arith; high = c.requires; same = c.date_after.ensures ∙ after_same _ _ day.low day.same }

@@ -5,8 +5,11 @@ use Rattle.gregorian.proofs.DaySteps.{number_is, is-date-of, before_same}
 use Rattle.gregorian.proofs.days.day_before.Goals as goal
 
 pub date_before-requires : goal.date_before-requires
-date_before-requires c = (is-date-of c.args.day, omega (arith, c.requires, number_is c.args.day))
+date_before-requires c =
+    let day = c.args.day in
+    (is-date-of _ _ day.low day.same day.high, omega (arith, c.requires, number_is _ _ day.low day.same))
 
 pub invariant_of-result : goal.invariant_of-result
 invariant_of-result c =
-    record { low = omega arith; high = omega (arith, c.args.day.high); same = c.date_before.ensures ∙ before_same c.args.day }
+    let day = c.args.day in
+    record { low = omega arith; high = omega (arith, day.high); same = c.date_before.ensures ∙ before_same _ _ day.low day.same }
