@@ -1,19 +1,17 @@
 -- The hours record of the header and the one inside, each from the other: docs/SCOPE.md [host-answers]. Assumes nothing.
-use Rattle.std.specs.Prelude.{ℕ, cond, eqb}
+use Rattle.std.specs.Prelude.{ℕ, cond, eqb, Option, Some, None}
 use Rattle.gregorian.specs.Calendar.{no_date}
 use Rattle.schedule.specs.declared.Session.{Session}
-use Rattle.schedule.specs.declared.OptionalSession.{OptionalSession}
-use Rattle.schedule.specs.declared.OptionalTime.{OptionalTime}
 use Rattle.schedule.specs.declared.TradingHours.{TradingHours}
 use Rattle.schedule.specs.Schedule.{no_session}
 use Rattle.answers.specs.declared.records.Hours.{Hours}
 
 -- A part is absent if its has_ field is 0, whatever its numbers are.
-unfoldable pub optional_session : ℕ → Session → OptionalSession
-optional_session has s = cond (eqb has 0) OptionalSession.None (OptionalSession.Some s)
+unfoldable pub optional_session : ℕ → Session → Option Session
+optional_session has s = cond (eqb has 0) None (Some s)
 
-unfoldable pub optional_time : ℕ → ℕ → OptionalTime
-optional_time has time = cond (eqb has 0) OptionalTime.None (OptionalTime.Some time)
+unfoldable pub optional_time : ℕ → ℕ → Option ℕ
+optional_time has time = cond (eqb has 0) None (Some time)
 
 -- what the host hands in
 abbrev pub trading_hours_of : Hours → TradingHours
@@ -27,21 +25,21 @@ trading_hours_of hours =
     }
 
 -- In an answer a has_ field is 1 or 0, and the numbers of an absent part are 0.
-abbrev pub has_session : OptionalSession → ℕ
-has_session (OptionalSession.Some s) = 1
-has_session OptionalSession.None = 0
+abbrev pub has_session : Option Session → ℕ
+has_session (Some s) = 1
+has_session None = 0
 
-abbrev pub session_of : OptionalSession → Session
-session_of (OptionalSession.Some s) = s
-session_of OptionalSession.None = no_session
+abbrev pub session_of : Option Session → Session
+session_of (Some s) = s
+session_of None = no_session
 
-abbrev pub has_time : OptionalTime → ℕ
-has_time (OptionalTime.Some time) = 1
-has_time OptionalTime.None = 0
+abbrev pub has_time : Option ℕ → ℕ
+has_time (Some time) = 1
+has_time None = 0
 
-abbrev pub time_of : OptionalTime → ℕ
-time_of (OptionalTime.Some time) = time
-time_of OptionalTime.None = 0
+abbrev pub time_of : Option ℕ → ℕ
+time_of (Some time) = time
+time_of None = 0
 
 -- what comes back to the host
 abbrev pub hours_of : TradingHours → Hours

@@ -2,7 +2,7 @@
 ghost use Rattle.std.specs.Prelude.{◌≡◌};
 ghost use Rattle.answers.specs.Answers.{count_answer};
 
-use error::CountResult;
+use error::CalendarError;
 use gregorian::{Date, NO_DATE};
 
 // tc_count_result of the header, [host-answers]: error is 0 and count is the answer; or error is a number of [errors], count the
@@ -16,16 +16,16 @@ pub struct CountAnswer {
 }
 
 #[tactic(auto, unfolding(crate::specs::Answers::count_answer))]
-pub fn count_answer(res: CountResult) -> CountAnswer
+pub fn count_answer(res: Result<u32, CalendarError>) -> CountAnswer
     ensures { result ≡ count_answer res }
 {
     match res {
-        CountResult::Ok(count) => CountAnswer {
+        Ok(count) => CountAnswer {
             error: 0,
             count,
             date: NO_DATE,
         },
-        CountResult::Err(e) => {
+        Err(e) => {
             let fields = error::fields(e);
             let date = fields.date;
             CountAnswer {

@@ -9,13 +9,12 @@ pub mod records;
 pub mod slices;
 pub mod trading_hours;
 
-ghost use Rattle.std.specs.Prelude.{◌≡◌, ◌+◌, ◌-◌, ◌≤◌};
-ghost use Rattle.utils.specs.Weekday.{map_day};
+ghost use Rattle.std.specs.Prelude.{◌≡◌, ◌+◌, ◌-◌, ◌≤◌, option_map};
 ghost use Rattle.utils.specs.Inner.{day_of_nth, NthInYears};
 ghost use Rattle.utils.specs.Easter.{calculate_easter};
 ghost use Rattle.answers.specs.Answers.{optional_date, flag_of, bool_answer};
 
-use error::BoolResult;
+use error::CalendarError;
 use gregorian::{Date, NO_DATE};
 use utils::NthWeekday;
 use utils::easter::easter_days;
@@ -56,7 +55,7 @@ pub fn nth_weekday_answer(year: u32, month: u32, answer: NthWeekday) -> Optional
 #[tactic(auto, unfolding(crate::specs::Answers::optional_date, utils::specs::Easter::calculate_easter))]
 pub fn easter_answer(year: u32, march_day: u32) -> OptionalDate
     requires { (1 ≤ march_day) × (march_day ≤ 27) }
-    ensures { result ≡ optional_date (map_day (λ n. n + march_day - 22) (calculate_easter year)) }
+    ensures { result ≡ optional_date (option_map (λ n. n + march_day - 22) (calculate_easter year)) }
 {
     if year < 1 {
         return NO_OPTIONAL_DATE;
@@ -89,16 +88,16 @@ fn flag(yes: bool) -> u32
 }
 
 #[tactic(auto, unfolding(crate::specs::Answers::bool_answer))]
-pub fn bool_answer(res: BoolResult) -> BoolAnswer
+pub fn bool_answer(res: Result<bool, CalendarError>) -> BoolAnswer
     ensures { result ≡ bool_answer res }
 {
     match res {
-        BoolResult::Ok(yes) => BoolAnswer {
+        Ok(yes) => BoolAnswer {
             error: 0,
             value: flag(yes),
             date: NO_DATE,
         },
-        BoolResult::Err(e) => {
+        Err(e) => {
             let fields = error::fields(e);
             let date = fields.date;
             BoolAnswer {

@@ -2,9 +2,10 @@
 ghost use Rattle.std.specs.Prelude.{◌≡◌};
 ghost use Rattle.answers.specs.Answers.{trading_day_answer};
 
+use range_calls::TradingDay;
+use error::CalendarError;
 use crate::flag;
 use gregorian::Date;
-use range_calls::TradingDayResult;
 
 // tc_trading_day_result of the header, [host-answers]: error is 0 and the rest is the answer; or error is a number of [errors], and
 // every other field is 0 [reading-nothing] [reading-error-6].
@@ -18,11 +19,11 @@ pub struct TradingDayAnswer {
 }
 
 #[tactic(auto, unfolding(crate::specs::Answers::trading_day_answer))]
-pub fn trading_day_answer(res: TradingDayResult) -> TradingDayAnswer
+pub fn trading_day_answer(res: Result<TradingDay, CalendarError>) -> TradingDayAnswer
     ensures { result ≡ trading_day_answer res }
 {
     match res {
-        TradingDayResult::Ok(day) => {
+        Ok(day) => {
             let date = day.date;
             TradingDayAnswer {
                 error: 0,
@@ -31,7 +32,7 @@ pub fn trading_day_answer(res: TradingDayResult) -> TradingDayAnswer
                 outside: flag(day.outside),
             }
         }
-        TradingDayResult::Err(e) => {
+        Err(e) => {
             let fields = error::fields(e);
             let date = fields.date;
             TradingDayAnswer {

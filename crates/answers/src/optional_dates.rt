@@ -2,7 +2,7 @@
 ghost use Rattle.std.specs.Prelude.{◌≡◌};
 ghost use Rattle.answers.specs.Answers.{optional_date_answer};
 
-use error::OptionalDateResult;
+use error::CalendarError;
 use gregorian::{Date, NO_DATE};
 
 // tc_optional_date_result of the header, [host-answers]: error is 0, and found is 1 and date is the answer, or both are 0; or error is a
@@ -16,21 +16,21 @@ pub struct OptionalDateAnswer {
 }
 
 #[tactic(auto, unfolding(crate::specs::Answers::optional_date_answer))]
-pub fn optional_date_answer(res: OptionalDateResult) -> OptionalDateAnswer
+pub fn optional_date_answer(res: Result<Option<Date>, CalendarError>) -> OptionalDateAnswer
     ensures { result ≡ optional_date_answer res }
 {
     match res {
-        OptionalDateResult::Found(date) => OptionalDateAnswer {
+        Ok(Some(date)) => OptionalDateAnswer {
             error: 0,
             found: 1,
             date,
         },
-        OptionalDateResult::None => OptionalDateAnswer {
+        Ok(None) => OptionalDateAnswer {
             error: 0,
             found: 0,
             date: NO_DATE,
         },
-        OptionalDateResult::Err(e) => {
+        Err(e) => {
             let fields = error::fields(e);
             let date = fields.date;
             OptionalDateAnswer {

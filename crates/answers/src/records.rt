@@ -4,7 +4,7 @@ ghost use Rattle.answers.specs.Records.{optional_session, optional_time, trading
 ghost use Rattle.answers.specs.Records.{has_session, session_of, has_time, time_of, hours_of};
 
 use gregorian::{Date, NO_DATE};
-use schedule::{OptionalSession, OptionalTime, Session, TradingHours};
+use schedule::{Session, TradingHours};
 
 // tc_hours of the header, [host-answers]: a part is absent if its has_ field is 0, whatever its numbers are. In an answer a has_
 // field is 0 or 1, and the numbers of an absent part are 0.
@@ -36,24 +36,24 @@ pub const NO_HOURS: Hours = Hours {
 };
 
 #[tactic(auto, unfolding(crate::specs::Records::optional_session))]
-pub fn optional_session(has: u32, session: Session) -> OptionalSession
+pub fn optional_session(has: u32, session: Session) -> Option<Session>
     ensures { result ≡ optional_session has session }
 {
     if has == 0 {
-        OptionalSession::None
+        None
     } else {
-        OptionalSession::Some(session)
+        Some(session)
     }
 }
 
 #[tactic(auto, unfolding(crate::specs::Records::optional_time))]
-fn optional_time(has: u32, time: u32) -> OptionalTime
+fn optional_time(has: u32, time: u32) -> Option<u32>
     ensures { result ≡ optional_time has time }
 {
     if has == 0 {
-        OptionalTime::None
+        None
     } else {
-        OptionalTime::Some(time)
+        Some(time)
     }
 }
 
@@ -74,39 +74,39 @@ pub fn trading_hours_of(hours: Hours) -> TradingHours
     }
 }
 
-fn has_session(session: OptionalSession) -> u32
+fn has_session(session: Option<Session>) -> u32
     ensures { result ≡ has_session session }
 {
     match session {
-        OptionalSession::Some(_) => 1,
-        OptionalSession::None => 0,
+        Some(_) => 1,
+        None => 0,
     }
 }
 
-fn session_of(session: OptionalSession) -> Session
+fn session_of(session: Option<Session>) -> Session
     ensures { result ≡ session_of session }
 {
     match session {
-        OptionalSession::Some(session) => session,
-        OptionalSession::None => NO_SESSION,
+        Some(session) => session,
+        None => NO_SESSION,
     }
 }
 
-fn has_time(time: OptionalTime) -> u32
+fn has_time(time: Option<u32>) -> u32
     ensures { result ≡ has_time time }
 {
     match time {
-        OptionalTime::Some(_) => 1,
-        OptionalTime::None => 0,
+        Some(_) => 1,
+        None => 0,
     }
 }
 
-fn time_of(time: OptionalTime) -> u32
+fn time_of(time: Option<u32>) -> u32
     ensures { result ≡ time_of time }
 {
     match time {
-        OptionalTime::Some(time) => time,
-        OptionalTime::None => 0,
+        Some(time) => time,
+        None => 0,
     }
 }
 

@@ -3,9 +3,10 @@ ghost use Rattle.std.specs.Prelude.{◌≡◌};
 ghost use Rattle.answers.specs.Answers.{slice_answer};
 ghost use Rattle.answers.specs.SliceCall.{slice_order_answer, slice_order_buffer};
 
+use orders::Slicing;
+use error::CalendarError;
 use crate::counts::CountAnswer;
 use gregorian::{Date, NO_DATE};
-use orders::SliceResult;
 
 // tc_slice_result of the header, [host-answers]: error is 0 and the next three are the answer; or error is a number of [errors], count
 // the number of entries that error 9 returns, and date what error 1 returns.
@@ -20,11 +21,11 @@ pub struct SliceAnswer {
 }
 
 #[tactic(auto, unfolding(crate::specs::Answers::slice_answer))]
-fn slice_answer(res: SliceResult) -> SliceAnswer
+fn slice_answer(res: Result<Slicing, CalendarError>) -> SliceAnswer
     ensures { result ≡ slice_answer res }
 {
     match res {
-        SliceResult::Ok {
+        Ok {
             count,
             per_day,
             remainder,
@@ -35,7 +36,7 @@ fn slice_answer(res: SliceResult) -> SliceAnswer
             remainder,
             date: NO_DATE,
         },
-        SliceResult::Err(e) => {
+        Err(e) => {
             let fields = error::fields(e);
             let date = fields.date;
             SliceAnswer {

@@ -2,9 +2,9 @@
 ghost use Rattle.std.specs.Prelude.{◌≡◌};
 ghost use Rattle.answers.specs.Answers.{time_answer, session_answer, hours_answer};
 
+use error::CalendarError;
 use crate::records::{Hours, NO_HOURS, NO_SESSION, hours_of};
-use error::TimeResult;
-use schedule::{HoursResult, Session, SessionResult};
+use schedule::{Session, TradingHours};
 
 // tc_time_result, tc_session_result and tc_hours_result of the header, [host-answers]: error is 0 and the other field is the
 // answer; or error is a number of [errors], and every other field is 0.
@@ -30,12 +30,12 @@ pub struct HoursAnswer {
 }
 
 #[tactic(auto, unfolding(crate::specs::Answers::time_answer))]
-pub fn time_answer(res: TimeResult) -> TimeAnswer
+pub fn time_answer(res: Result<u32, CalendarError>) -> TimeAnswer
     ensures { result ≡ time_answer res }
 {
     match res {
-        TimeResult::Ok(seconds) => TimeAnswer { error: 0, seconds },
-        TimeResult::Err(e) => {
+        Ok(seconds) => TimeAnswer { error: 0, seconds },
+        Err(e) => {
             let fields = error::fields(e);
             TimeAnswer {
                 error: fields.number,
@@ -46,12 +46,12 @@ pub fn time_answer(res: TimeResult) -> TimeAnswer
 }
 
 #[tactic(auto, unfolding(crate::specs::Answers::session_answer))]
-pub fn session_answer(res: SessionResult) -> SessionAnswer
+pub fn session_answer(res: Result<Session, CalendarError>) -> SessionAnswer
     ensures { result ≡ session_answer res }
 {
     match res {
-        SessionResult::Ok(session) => SessionAnswer { error: 0, session },
-        SessionResult::Err(e) => {
+        Ok(session) => SessionAnswer { error: 0, session },
+        Err(e) => {
             let fields = error::fields(e);
             SessionAnswer {
                 error: fields.number,
@@ -62,15 +62,15 @@ pub fn session_answer(res: SessionResult) -> SessionAnswer
 }
 
 #[tactic(auto, unfolding(crate::specs::Answers::hours_answer))]
-pub fn hours_answer(res: HoursResult) -> HoursAnswer
+pub fn hours_answer(res: Result<TradingHours, CalendarError>) -> HoursAnswer
     ensures { result ≡ hours_answer res }
 {
     match res {
-        HoursResult::Ok(hours) => HoursAnswer {
+        Ok(hours) => HoursAnswer {
             error: 0,
             hours: hours_of(hours),
         },
-        HoursResult::Err(e) => {
+        Err(e) => {
             let fields = error::fields(e);
             HoursAnswer {
                 error: fields.number,

@@ -1,11 +1,12 @@
 -- `market_sets::common_trading_day` meets its contract: error 12, the first common day past the check of the dates, and its error stays.
-use Rattle.std.proofs.Common.{ℕ, ap₂, sym, ◌∙◌, arith}
+use Rattle.std.proofs.Common.{ℕ, ap₂, sym, ◌∙◌, arith, Option, Result}
 use Rattle.ranges.specs.Ranges.{days, find}
-use Rattle.error.specs.declared.OptionalDateResult.{OptionalDateResult}
 use Rattle.checks.proofs.CheckLaws.{past-range, past-range-error, check-passed, check-failed}
 use Rattle.market_sets.specs.MarketSets.{is_common_trading_day, found_on}
 use Rattle.market_sets.proofs.SetLaws.{set-passes, no-set}
 use Rattle.market_sets.proofs.common_trading_day.Goals as goal
+use Rattle.error.specs.declared.CalendarError.{CalendarError}
+use Rattle.gregorian.specs.declared.Date.{Date}
 
 pub returns-then-not-is_set : goal.returns-then-not-is_set
 returns-then-not-is_set c = past-range-error _ _ _ _ (sym (no-set _ _ _ (sym c.is_market_set-is_set.ensures ∙ c.if-not-is_set.true)))
@@ -22,7 +23,7 @@ first_common_day-requires c = (c.calendar_day-first.ensures.0, omega (arith, c.d
 pub returns-in-Ok : goal.returns-in-Ok
 returns-in-Ok c =
     let set = sym c.is_market_set-is_set.ensures ∙ c.if-not-is_set.false in
-    let found : ℕ → ℕ → OptionalDateResult = λ a b. found_on (find (is_common_trading_day c.args.markets) (days a b)) in
+    let found : ℕ → ℕ → Result (Option Date) CalendarError = λ a b. found_on (find (is_common_trading_day c.args.markets) (days a b)) in
     past-range _ _ _ _ _ _ (sym (set-passes _ _ _ set ∙ (check-passed _ _ c.in-Ok.ensures).0))
     (c.first_common_day.ensures ∙ ap₂ found c.calendar_day-first.ensures.1 c.day_number-last.ensures)
 
