@@ -8,9 +8,7 @@ use native.Mathlib.Omega.{arith}
 use native.Mathlib.Decide.{dec_le}
 use borrow.Author.Tests.{lt-ltb, le-ltb}
 use Rattle.gregorian.specs.declared.Date.{Date}
-use Rattle.gregorian.specs.declared.days.CalendarDay.{CalendarDay}
 use Rattle.gregorian.specs.Calendar.{total, month_length, day_number, last_day, is_date, is_date_of, day_after, date_of, date, number, day_before}
-use Rattle.gregorian.specs.Inner.{SameDay}
 use Rattle.gregorian.proofs.Laws.{DateExists, is-date, month-low, to-month, to-year, by_number, number-of-date, date-of-is, number-range}
 
 -- ---- the day after
@@ -78,20 +76,21 @@ year-2 t h d m n = elim (dec_le 2 t.year) [
 -- ---- the number and the date of one day
 
 -- a date and its number
-pub same-day : (y m d n : ℕ) → is_date y m d ≡ true → n ≡ day_number y m d → SameDay (record { number = n; date = date y m d })
-same-day y m d n h e =
-    record { low = omega (arith, e, number-range y m d h); same = by_number y m d n (is-date y m d h).exists (sym e) }
+pub numbered : (y m d n : ℕ) → is_date y m d ≡ true → n ≡ day_number y m d → (1 ≤ n) × (n ≤ last_day) × (date y m d ≡ date_of n)
+numbered y m d n h e =
+    let r = number-range y m d h in
+    (omega (arith, e, r.0), omega (arith, e, r.1), by_number y m d n (is-date y m d h).exists (sym e))
 
-module _ (day : CalendarDay) (s : SameDay day) where
-  pub number_is : number day.date ≡ day.number
-  number_is = ap number s.same ∙ number-of-date day.number s.low
+module _ (n : ℕ) (t : Date) (low : 1 ≤ n) (same : t ≡ date_of n) where
+  pub number_is : number t ≡ n
+  number_is = ap number same ∙ number-of-date n low
 
-  pub is-date-of : day.number ≤ last_day → is_date_of day.date ≡ true
-  is-date-of h = ap is_date_of s.same ∙ date-of-is day.number s.low h
+  pub is-date-of : n ≤ last_day → is_date_of t ≡ true
+  is-date-of h = ap is_date_of same ∙ date-of-is n low h
 
-  pub after_same : day_after day.date ≡ date_of (day.number + 1)
+  pub after_same : day_after t ≡ date_of (n + 1)
   unfolding date_of
-  after_same = let e : suc day.number ≡ day.number + 1 = omega arith in ap day_after s.same ∙ ap date_of e
+  after_same = let e : suc n ≡ n + 1 = omega arith in ap day_after same ∙ ap date_of e
 
-  pub before_same : day_before day.date ≡ date_of (day.number - 1)
+  pub before_same : day_before t ≡ date_of (n - 1)
   before_same = ap (λ (n : ℕ). date_of (n - 1)) number_is

@@ -1,7 +1,6 @@
 -- Inner: no exported contract and no claim rests on these. Facts about dates and their parts. Assumes nothing.
-use Rattle.std.specs.Prelude.{ℕ, ◌-◌, ◌≤◌, ◌<◌, ◌≡◌}
-use Rattle.gregorian.specs.Calendar.{month_length, total, last_year, date_of}
-use Rattle.gregorian.specs.declared.days.CalendarDay.{CalendarDay}
+use Rattle.std.specs.Prelude.{ℕ, ◌-◌, ◌≤◌, ◌<◌}
+use Rattle.gregorian.specs.Calendar.{month_length, total, last_year}
 
 -- day d of month m of year y exists, in any year from 1 on
 pub record Exists (y m d : ℕ) : Type 0 where
@@ -22,8 +21,3 @@ pub record Within (f : ℕ → ℕ) (most n k : ℕ) : Type 0 where
   pub high : k ≤ most
   pub starts : total f (k - 1) < n
   pub ends : n ≤ total f k
-
--- the number and the date that are carried together are of the same day
-pub record SameDay (day : CalendarDay) : Type 0 where
-  pub low : 1 ≤ day.number
-  pub same : day.date ≡ date_of day.number

@@ -1,7 +1,6 @@
 // A day as searches carry it: its day number and its date together, stepped to the day after and the day before without a conversion.
 ghost use Rattle.std.specs.Prelude.{◌≡◌, true, ◌+◌, ◌-◌, ◌≤◌, ltb};
-ghost use Rattle.gregorian.specs.Calendar.{month_length, day_number, last_day, is_date, is_date_of, number, day_after, day_before};
-ghost use Rattle.gregorian.specs.Inner.{SameDay};
+ghost use Rattle.gregorian.specs.Calendar.{month_length, day_number, last_day, is_date, is_date_of, date_of, number, day_after, day_before};
 
 use crate::{Date, day_number, days_in_month};
 
@@ -9,11 +8,14 @@ use crate::{Date, day_number, days_in_month};
 pub struct CalendarDay {
     pub number: u32,
     pub date: Date,
+    pub ghost low: { 1 ≤ number },
+    pub ghost high: { number ≤ last_day },
+    pub ghost same: { date ≡ date_of number },
 }
 
 pub fn calendar_day(year: u32, month: u32, day: u32) -> CalendarDay
     requires { is_date year month day ≡ true }
-    ensures { SameDay result × (result.number ≡ day_number year month day) }
+    ensures { result.number ≡ day_number year month day }
 {
     CalendarDay {
         number: day_number(year, month, day),
@@ -32,7 +34,7 @@ fn month_goes_on(date: Date) -> bool
     date.day < days_in_month(date.year, date.month)
 }
 
-fn date_after(date: Date) -> Date
+pub fn date_after(date: Date) -> Date
     requires { is_date_of date ≡ true }
     ensures { result ≡ day_after date }
 {
@@ -83,8 +85,8 @@ fn date_before(date: Date) -> Date
 }
 
 pub fn day_after(day: CalendarDay) -> CalendarDay
-    requires { SameDay day × (day.number ≤ last_day) }
-    ensures { SameDay result × (result.number ≡ day.number + 1) }
+    requires { day.number + 1 ≤ last_day }
+    ensures { result.number ≡ day.number + 1 }
 {
     CalendarDay {
         number: day.number + 1,
@@ -93,8 +95,8 @@ pub fn day_after(day: CalendarDay) -> CalendarDay
 }
 
 pub fn day_before(day: CalendarDay) -> CalendarDay
-    requires { SameDay day × (2 ≤ day.number) × (day.number ≤ last_day) }
-    ensures { SameDay result × (result.number ≡ day.number - 1) }
+    requires { 2 ≤ day.number }
+    ensures { result.number ≡ day.number - 1 }
 {
     CalendarDay {
         number: day.number - 1,

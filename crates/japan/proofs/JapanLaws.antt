@@ -14,7 +14,6 @@ use native.Mathlib.Nat.{eq-or-lt_of_le, le_of_suc-le-suc}
 use borrow.Author.Tests.{leb-true, ltb-true, eqb-true, ne_eqb}
 use Rattle.gregorian.specs.Calendar.{monday, friday, sunday, day_number, last_year, last_day, weekday_of, date}
 use Rattle.gregorian.specs.declared.days.CalendarDay.{CalendarDay}
-use Rattle.gregorian.specs.Inner.{SameDay}
 use Rattle.gregorian.proofs.Tests.{and_left, and_right, and-false}
 use Rattle.gregorian.proofs.Laws.{days-on, is-date, number-before}
 use Rattle.utils.specs.Weekday.{nth_weekday_of_month}
@@ -205,7 +204,7 @@ not-with first last d n l u e =
     let not-next : eqb n (d + 1) ≡ false = sym (not-between first last (d + 1) n (omega arith) u e) in
     simp (not-date, not-next, and-false)
 
-module _ (day : CalendarDay) (s : SameDay day) (h : day.number ≤ last_day) where
+module _ (day : CalendarDay) where
   abbrev y : ℕ
   y = day.date.year
 
@@ -217,23 +216,23 @@ module _ (day : CalendarDay) (s : SameDay day) (h : day.number ≤ last_day) whe
 
   substituted-in : (m d : ℕ) → every_year_has m d ≡ true → every_year_has m (d + 1) ≡ true → Fits month (m ∷ []) (is_with_substitute (day_number y m d) n)
   substituted-in m d p q =
-      near day s h m d 1 (is_with_substitute (day_number y m d) n) p q (not-with _ _ (day_number y m d) n (omega arith) (omega arith))
+      near day m d 1 (is_with_substitute (day_number y m d) n) p q (not-with _ _ (day_number y m d) n (omega arith) (omega arith))
 
   equinox-in : (days : List ℕ) (m low high : ℕ) → every_between low high days 11 ≡ true → every_year_has m low ≡ true → every_year_has m (low + 2) ≡ true → low + 1 ≡ high → Fits month (m ∷ []) (is_day_with_substitute (equinox days y m) n)
-  equinox-in days m low high k p q next = near day s h m low 2 (is_day_with_substitute (equinox days y m) n) p q (by (equinox days y m) refl)
+  equinox-in days m low high k p q next = near day m low 2 (is_day_with_substitute (equinox days y m) n) p q (by (equinox days y m) refl)
     where
       by : (r : Option ℕ) → equinox days y m ≡ r → is_between (day_number y m low) (day_number y m low + 2) n ≡ false → false ≡ is_day_with_substitute r n
       by (Some t) f e = let r = equinox-near days low high m y t k f in not-with _ _ t n r.0 (omega (arith, r, days-on y m low 1, ap (day_number y m) next)) e
       by None f e = refl
 
   bridge_in : Fits month (5 ∷ []) (is_bridge_day y n)
-  bridge_in = near day s h 5 2 4 (is_bridge_day y n) refl refl (not-bridge-day y n)
+  bridge_in = near day 5 2 4 (is_bridge_day y n) refl refl (not-bridge-day y n)
 
   -- the insertions of the Rust, one after the other, in years 1 to 9999
   pub japan-by-month : contains (get_japan_holidays y) n ≡ any_of month (japan_rules y n)
   unfolding get_japan_holidays
   japan-by-month =
-      let years = year-range day s h in
+      let years = year-range day in
       let a = add start (day_number y 1 1) (omega arith) in
       let a = add a (day_number y 1 2) (in_order-days y 1 1 1 2 years refl) in
       let a = add a (day_number y 1 3) (in_order-days y 1 2 1 3 years refl) in
@@ -256,14 +255,14 @@ module _ (day : CalendarDay) (s : SameDay day) (h : day.number ≤ last_day) whe
       let a = put a (day_number y 12 31) (day_number y 12 31) (in_order-days y 11 23 12 31 years refl) (omega arith) in
       a.same n
       ∙ by-month month false (japan_rules y n)
-      (substituted-in 1 1 refl refl and substituted-in 1 2 refl refl and substituted-in 1 3 refl refl and nth day s h 1 monday (pos 2)
+      (substituted-in 1 1 refl refl and substituted-in 1 2 refl refl and substituted-in 1 3 refl refl and nth day 1 monday (pos 2)
       and substituted-in 2 11 refl refl and substituted-in 2 23 refl refl
       and equinox-in vernal_days 3 20 21 refl refl refl refl
       and substituted-in 4 29 refl refl
-      and substituted-in 5 3 refl refl and substituted-in 5 5 refl refl and fixed day s h 5 4 refl refl and bridge_in
-      and nth day s h 7 monday (pos 3)
+      and substituted-in 5 3 refl refl and substituted-in 5 5 refl refl and fixed day 5 4 refl refl and bridge_in
+      and nth day 7 monday (pos 3)
       and substituted-in 8 11 refl refl
-      and nth day s h 9 monday (pos 3) and equinox-in autumnal_days 9 22 23 refl refl refl refl
-      and nth day s h 10 monday (pos 2)
+      and nth day 9 monday (pos 3) and equinox-in autumnal_days 9 22 23 refl refl refl refl
+      and nth day 10 monday (pos 2)
       and substituted-in 11 3 refl refl and substituted-in 11 23 refl refl
-      and fixed day s h 12 31 refl refl and tt)
+      and fixed day 12 31 refl refl and tt)

@@ -3,7 +3,6 @@
 // holiday is in its set.
 ghost use Rattle.std.specs.Prelude.{◌≡◌, true, ◌+◌, ◌≤◌, pos};
 ghost use Rattle.gregorian.specs.Calendar.{monday, last_day, day_number};
-ghost use Rattle.gregorian.specs.Inner.{SameDay};
 ghost use Rattle.utils.specs.Weekday.{nth_weekday_of_month};
 ghost use Rattle.rule_days.specs.Days.{is_day};
 ghost use Rattle.rule_days.specs.Inner.{any_of, every_between};
@@ -21,7 +20,6 @@ const AUTUMNAL_DAYS: [u32; 11] = [22, 23, 23, 23, 22, 23, 23, 23, 22, 23, 23];
 
 // Whether a day is a holiday of its year.
 pub fn is_japan_holiday(day: CalendarDay) -> bool
-    requires { SameDay day × (day.number ≤ last_day) }
     ensures { result ≡ any_of day.date.month (japan_rules day.date.year day.number) }
 {
     let n = day.number;
@@ -54,7 +52,7 @@ pub fn is_japan_holiday(day: CalendarDay) -> bool
 
 // A day of the month, or its substitute.
 fn is_fixed_holiday(day: CalendarDay, month: u32, d: u32) -> bool
-    requires { SameDay day × (day.number ≤ last_day) × (day.date.month ≡ month) × (d ≤ 31) }
+    requires { (day.date.month ≡ month) × (d ≤ 31) }
     ensures { result ≡ is_with_substitute (day_number day.date.year month d) day.number }
 {
     is_with_substitute(fixed_day(day, month, d), day.number)
@@ -74,7 +72,7 @@ fn is_with_substitute(date: u32, n: u32) -> bool
 
 // The equinox of the year, by its days in 2020 to 2030, or its substitute.
 fn is_equinox(days: [u32; 11], day: CalendarDay, month: u32) -> bool
-    requires { SameDay day × (day.number ≤ last_day) × (day.date.month ≡ month) × (every_between 1 28 days 11 ≡ true) }
+    requires { (day.date.month ≡ month) × (every_between 1 28 days 11 ≡ true) }
     ensures { result ≡ is_day_with_substitute (equinox days day.date.year month) day.number }
 {
     let year = day.date.year;
@@ -90,7 +88,7 @@ fn is_equinox(days: [u32; 11], day: CalendarDay, month: u32) -> bool
 
 // [tse-golden-week]. Only 2 to 6 May are compared.
 fn is_bridge_day(day: CalendarDay) -> bool
-    requires { SameDay day × (day.number ≤ last_day) × (day.date.month ≡ 5) }
+    requires { day.date.month ≡ 5 }
     ensures { result ≡ is_bridge_day day.date.year day.number }
 {
     let n = day.number;

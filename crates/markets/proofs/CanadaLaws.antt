@@ -11,7 +11,6 @@ use native.Mathlib.Omega.{arith}
 use borrow.Author.Tests.{eqb-true, eqb-false, ne_eqb}
 use Rattle.gregorian.specs.Calendar.{monday, friday, saturday, sunday, last_day, day_number, weekday_of}
 use Rattle.gregorian.specs.declared.days.CalendarDay.{CalendarDay}
-use Rattle.gregorian.specs.Inner.{SameDay}
 use Rattle.gregorian.proofs.Laws.{days-on}
 use Rattle.gregorian.proofs.Weekdays.{weekday-after}
 use Rattle.utils.specs.Weekday.{nth_weekday_of_month}
@@ -40,7 +39,7 @@ not-boxing-day y n e =
     let boxing = day_number y 12 26 in
     not-moved boxing (boxing + 2) boxing (boxing + 2) (boxing + 2) n (omega arith) (omega arith) (omega arith) e ∙ ap (eqb n) (sym (boxing-day-is y))
 
-module _ (day : CalendarDay) (s : SameDay day) (h : day.number ≤ last_day) where
+module _ (day : CalendarDay) where
   abbrev year : ℕ
   year = day.date.year
 
@@ -54,7 +53,7 @@ module _ (day : CalendarDay) (s : SameDay day) (h : day.number ≤ last_day) whe
   from-2008 = by (leb 2008 year)
     where
       by : (b : Bool) → Fits month (2 ∷ []) (is_day (cond b (nth_weekday_of_month year 2 monday (pos 3)) None) n)
-      by true e = nth day s h 2 monday (pos 3) e
+      by true e = nth day 2 monday (pos 3) e
       by false e = cc
 
   -- from 18 to 24 May
@@ -62,16 +61,16 @@ module _ (day : CalendarDay) (s : SameDay day) (h : day.number ≤ last_day) whe
   victoria =
       let last = (last-is monday (day_number year 5 24) (lit≤ tt) (omega (arith, day-low year 5 24))).1 in
       let d = days-on year 5 18 6 in
-      near day s h 5 18 6 (eqb n (victoria_day year)) refl refl (not-between _ _ (victoria_day year) n (omega (arith, last, d)) (omega (arith, last, d)))
+      near day 5 18 6 (eqb n (victoria_day year)) refl refl (not-between _ _ (victoria_day year) n (omega (arith, last, d)) (omega (arith, last, d)))
 
   -- from 26 to 28 December
   boxing : Fits month (12 ∷ []) (eqb n (boxing_day year))
-  boxing = near day s h 12 26 2 (eqb n (boxing_day year)) refl refl (not-boxing-day year n)
+  boxing = near day 12 26 2 (eqb n (boxing_day year)) refl refl (not-boxing-day year n)
 
   pub canada-by-month : contains (get_canada_holidays year) n ≡ any_of month (canada_rules year n)
   unfolding get_canada_holidays
   canada-by-month =
       simp (contains-day, contains-insert, contains-none)
       (by-month month false (canada_rules year n)
-      (observed day s h 1 1 refl refl and from-2008 and good-friday day s h and victoria and observed day s h 7 1 refl refl and nth day s h 9 monday (pos 1) and nth day s h 10 monday (pos 2)
-      and observed day s h 12 25 refl refl and boxing and tt))
+      (observed day 1 1 refl refl and from-2008 and good-friday day and victoria and observed day 7 1 refl refl and nth day 9 monday (pos 1) and nth day 10 monday (pos 2)
+      and observed day 12 25 refl refl and boxing and tt))

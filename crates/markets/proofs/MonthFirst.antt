@@ -10,7 +10,6 @@ use native.Mathlib.Decide.{dec_lt}
 use Rattle.gregorian.specs.declared.Date.{Date}
 use Rattle.gregorian.specs.declared.days.CalendarDay.{CalendarDay}
 use Rattle.gregorian.specs.Calendar.{last_day}
-use Rattle.gregorian.specs.Inner.{SameDay}
 use Rattle.gregorian.proofs.Total.{upto}
 use Rattle.rule_days.specs.Days.{contains}
 use Rattle.rule_days.specs.Inner.{any_of}
@@ -23,7 +22,7 @@ use Rattle.markets.proofs.UsLaws.{us-by-month}
 use Rattle.markets.proofs.UkLaws.{uk-by-month}
 use Rattle.markets.proofs.CanadaLaws.{canada-by-month}
 
-module _ (day : CalendarDay) (s : SameDay day) (h : day.number ≤ last_day) where
+module _ (day : CalendarDay) where
   abbrev n : ℕ
   n = day.number
 
@@ -37,8 +36,8 @@ module _ (day : CalendarDay) (s : SameDay day) (h : day.number ≤ last_day) whe
   of-market : (market : ℕ) → market < length holidays_by_code → Same market
   unfolding holidays
   of-market =
-      let us = sym (us-by-month day s h) in
-      upto Same (length holidays_by_code) (((((tt, us), us), sym (uk-by-month day s h)), sym (japan-by-month day s h)), sym (canada-by-month day s h))
+      let us = sym (us-by-month day) in
+      upto Same (length holidays_by_code) (((((tt, us), us), sym (uk-by-month day)), sym (japan-by-month day)), sym (canada-by-month day))
 
   -- any other
   of_none : (market : ℕ) → length holidays_by_code ≤ market → Same market
@@ -49,14 +48,13 @@ module _ (day : CalendarDay) (s : SameDay day) (h : day.number ≤ last_day) whe
       ∙ contains-none n
       ∙ no-market market day.date.month y n k)
 
-pub month-first : (market : ℕ) (day : CalendarDay) → SameDay day → day.number ≤ last_day
-    → any_of day.date.month (rules market day.date.year day.number) ≡ is_holiday market day.number
+pub month-first : (market : ℕ) (day : CalendarDay) → any_of day.date.month (rules market day.date.year day.number) ≡ is_holiday market day.number
 unfolding is_holiday
-month-first market day s h =
-    by_code ∙ ap (λ (t : Date). contains (holidays market t.year) day.number) s.same
+month-first market day =
+    by_code ∙ ap (λ (t : Date). contains (holidays market t.year) day.number) day.same
   where
     by_code : any_of day.date.month (rules market day.date.year day.number) ≡ contains (holidays market day.date.year) day.number
     by_code = elim (dec_lt market (length holidays_by_code)) [
-      | yes k ↦ of-market day s h market k
-      | no k ↦ of_none day s h market (omega arith)
+      | yes k ↦ of-market day market k
+      | no k ↦ of_none day market (omega arith)
     ]

@@ -12,7 +12,6 @@ use Rattle.gregorian.specs.Calendar.{monday, friday, saturday, sunday, last_day,
 use Rattle.gregorian.proofs.Laws.{days-on}
 use Rattle.gregorian.proofs.Weekdays.{weekday-after}
 use Rattle.gregorian.specs.declared.days.CalendarDay.{CalendarDay}
-use Rattle.gregorian.specs.Inner.{SameDay}
 use Rattle.utils.specs.Weekday.{minus}
 use Rattle.rule_days.specs.Days.{contains, insert, adjust_for_weekend}
 use Rattle.rule_days.specs.Inner.{any_of, is_between}
@@ -85,7 +84,7 @@ two-days-of ds y n false false false ep eq er =
     let b = ap (λ (i : ℕ). adjust_for_weekend i) (d 1) ∙ boxing-stays _ (eqb-false _ friday ep) (eqb-false _ saturday eq) in
     simp (ep, eq, er) (two-days ds _ _ _ (day_number y 12 25) (day_number y 12 25 + 1) n (stays _ (eqb-false _ saturday eq) (eqb-false _ sunday er)) refl b)
 
-module _ (day : CalendarDay) (s : SameDay day) (h : day.number ≤ last_day) where
+module _ (day : CalendarDay) where
   abbrev year : ℕ
   year = day.date.year
 
@@ -101,5 +100,5 @@ module _ (day : CalendarDay) (s : SameDay day) (h : day.number ≤ last_day) whe
       two-days-of _ year n _ _ _ refl refl refl
       ∙ simp (contains-day, contains-insert, contains-none)
       (by-month month false (uk_rules year n)
-      (observed day s h 1 1 refl refl and good-friday day s h and easter-monday day s h and nth day s h 5 monday (pos 1) and nth day s h 5 monday (minus 1) and nth day s h 8 monday (minus 1)
-      and near day s h 12 25 3 (is_christmas_or_boxing_day year n) refl refl (not-christmas-or-boxing-day year n) and tt))
+      (observed day 1 1 refl refl and good-friday day and easter-monday day and nth day 5 monday (pos 1) and nth day 5 monday (minus 1) and nth day 8 monday (minus 1)
+      and near day 12 25 3 (is_christmas_or_boxing_day year n) refl refl (not-christmas-or-boxing-day year n) and tt))

@@ -9,7 +9,6 @@ use lib.IntN.{pos}
 use native.Mathlib.Omega.{arith}
 use Rattle.gregorian.specs.Calendar.{monday, thursday, last_day, day_number}
 use Rattle.gregorian.specs.declared.days.CalendarDay.{CalendarDay}
-use Rattle.gregorian.specs.Inner.{SameDay}
 use Rattle.gregorian.proofs.Laws.{days-on}
 use Rattle.gregorian.proofs.Tests.{and_right}
 use Rattle.utils.specs.Weekday.{minus}
@@ -27,7 +26,7 @@ not-independence-day y n =
     let d = days-on y 7 3 1 in
     not-moved _ _ july4 (july4 - 1) (july4 + 1) n (omega (arith, d)) (omega (arith, d)) (omega (arith, d))
 
-module _ (day : CalendarDay) (s : SameDay day) (h : day.number ≤ last_day) where
+module _ (day : CalendarDay) where
   abbrev year : ℕ
   year = day.date.year
 
@@ -38,15 +37,15 @@ module _ (day : CalendarDay) (s : SameDay day) (h : day.number ≤ last_day) whe
   month = day.date.month
 
   independence : Fits month (7 ∷ []) (eqb n (independence_day year))
-  independence = near day s h 7 3 2 (eqb n (independence_day year)) refl refl (not-independence-day year n)
+  independence = near day 7 3 2 (eqb n (independence_day year)) refl refl (not-independence-day year n)
 
   from-2021 : Fits month (6 ∷ []) (leb 2021 year && eqb n (juneteenth year))
-  from-2021 e = observed day s h 6 19 refl refl (and_right (leb 2021 year) _ e)
+  from-2021 e = observed day 6 19 refl refl (and_right (leb 2021 year) _ e)
 
   pub us-by-month : contains (get_us_holidays year) n ≡ any_of month (us_rules year n)
   unfolding get_us_holidays
   us-by-month =
       simp (contains-day, contains-if, contains-insert, contains-none)
       (by-month month false (us_rules year n)
-      (observed day s h 1 1 refl refl and independence and observed day s h 12 25 refl refl and from-2021 and nth day s h 1 monday (pos 3) and nth day s h 2 monday (pos 3)
-      and nth day s h 5 monday (minus 1) and nth day s h 9 monday (pos 1) and nth day s h 11 thursday (pos 4) and good-friday day s h and tt))
+      (observed day 1 1 refl refl and independence and observed day 12 25 refl refl and from-2021 and nth day 1 monday (pos 3) and nth day 2 monday (pos 3)
+      and nth day 5 monday (minus 1) and nth day 9 monday (pos 1) and nth day 11 thursday (pos 4) and good-friday day and tt))

@@ -7,8 +7,7 @@ pub mod us;
 pub mod years;
 
 ghost use Rattle.std.specs.Prelude.{◌≡◌, ◌≤◌};
-ghost use Rattle.gregorian.specs.Calendar.{last_day, date};
-ghost use Rattle.gregorian.specs.Inner.{SameDay};
+ghost use Rattle.gregorian.specs.Calendar.{last_day, date, date_of};
 ghost use Rattle.rule_days.specs.Inner.{any_of};
 ghost use Rattle.markets.specs.Markets.{is_market, is_weekend, is_holiday, is_trading_day};
 ghost use Rattle.markets.specs.Inner.{rules};
@@ -49,7 +48,7 @@ pub fn is_weekend(n: u32) -> bool
 // [month-first]: by the rules of the market that can fall in the month. A code that is no market's has none. It stays a call, and is
 // given the parts of the day one by one: a struct would go through memory.
 fn is_holiday_on(market: u32, number: u32, year: u32, month: u32, d: u32) -> bool
-    requires { SameDay (record { number = number; date = date year month d }) × (number ≤ last_day) }
+    requires { (1 ≤ number) × (number ≤ last_day) × (date year month d ≡ date_of number) }
     ensures { result ≡ any_of month (rules market year number) }
 {
     let date = Date {
@@ -69,7 +68,6 @@ fn is_holiday_on(market: u32, number: u32, year: u32, month: u32, d: u32) -> boo
 
 // [is-holiday]
 pub fn is_holiday(market: u32, day: CalendarDay) -> bool
-    requires { SameDay day × (day.number ≤ last_day) }
     ensures { result ≡ is_holiday market day.number }
 {
     is_holiday_on(
@@ -83,7 +81,6 @@ pub fn is_holiday(market: u32, day: CalendarDay) -> bool
 
 // [trading-day]
 pub fn is_trading_day(market: u32, day: CalendarDay) -> bool
-    requires { SameDay day × (day.number ≤ last_day) }
     ensures { result ≡ is_trading_day market day.number }
 {
     let n = day.number;

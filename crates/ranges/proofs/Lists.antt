@@ -60,6 +60,12 @@ days-none a b h = ap (days_from a) (omega arith) ∙ from-none a
 pub days-next : (a b : ℕ) → a ≤ b → days a b ≡ a ∷ days (suc a) b
 days-next a b h = ap (days_from a) (omega arith) ∙ from_next a (suc b - suc a)
 
+pub days_step : (a b : ℕ) → a ≤ b → days a b ≡ a ∷ days (a + 1) b
+days_step a b h = let one : suc a ≡ a + 1 = omega arith in days-next a b h ∙ ap (λ (i : ℕ). a ∷ days i b) one
+
+pub day-first : (a b n : ℕ) → a ≤ b → n ≡ a → days a b ≡ n ∷ days (suc n) b
+day-first a b n h e = days-next a b h ∙ sym (ap (λ (i : ℕ). i ∷ days (suc i) b) e)
+
 from-length : (k a : ℕ) → length (days_from a k) ≡ k
 unfolding days_from
 from-length zero a = refl
@@ -204,3 +210,9 @@ module _ (p : ℕ → Bool) where
   pub trading-mirror : (a b c : ℕ) → a ≤ suc b → a ≤ c → b ≤ c → reverse (trading_days p a b) ≡ map (λ i. c - i) (trading_days (λ i. p (c - i)) (c - b) (c - a))
   trading-mirror a b c h l k =
       sym (filter-reverse (days a b)) ∙ ap (filter p) (days-mirror a b c h l k) ∙ filter_map p (λ i. c - i) (days (c - b) (c - a))
+
+pub days_length : (a b : ℕ) → length (days a b) ≡ suc b - a
+days_length a b = from-length (suc b - a) a
+
+pub day-last : (a b n : ℕ) → 1 ≤ b → a ≤ b → n ≡ b → reverse (days a b) ≡ n ∷ reverse (days a (n - 1))
+day-last a b n l h e = days-last a b l h ∙ sym (ap (λ (i : ℕ). i ∷ reverse (days a (i - 1))) e)

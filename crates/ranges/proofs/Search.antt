@@ -3,10 +3,11 @@
 use Rattle.std.proofs.Common.{Option, Some, None, option_map}
 use Prim.Native.Nat.{ℕ, zero, suc, ◌+◌, ◌-◌, ◌≤◌, ◌<◌}
 use mathlib.Core.Path.{◌≡◌, refl, sym, ap, ◌∙◌, subst}
-use mathlib.Core.Bool.{Bool, true, false}
+use mathlib.Core.Bool.{Bool, true, false, cond}
 use mathlib.Core.Logic.{◌⊎◌, inl, inr, ⊎_elim}
 use mathlib.Core.List.{List, [], ◌∷◌, map}
 use native.Mathlib.Omega.{arith}
+use Rattle.std.specs.List as list
 use Rattle.ranges.specs.Ranges.{days, found, find, SomeTradingDay}
 use Rattle.ranges.proofs.Lists.{test, order, days-none, days-next}
 
@@ -29,6 +30,16 @@ module _ (trades : ℕ → Bool) where
   find-next : (n : ℕ) (l : List ℕ) → find trades (n ∷ l) ≡ found (trades n) n (find trades l)
   unfolding find
   find-next n l = refl
+
+  -- the search of std, by which an iterator's `find` answers
+  pub by-find : (l : List ℕ) → list.find trades l ≡ find trades l
+  unfolding find
+  by-find [] = refl
+  by-find (n ∷ l) = ap (λ (later : Option ℕ). cond (trades n) (Some n) later) (by-find l) ∙ found-cond (trades n) (find trades l)
+    where
+      found-cond : (t : Bool) (later : Option ℕ) → cond t (Some n) later ≡ found t n later
+      found-cond true later = refl
+      found-cond false later = refl
 
   -- a search among mapped days
   pub find-map : (f : ℕ → ℕ) (l : List ℕ) → find trades (map f l) ≡ option_map f (find (λ n. trades (f n)) l)

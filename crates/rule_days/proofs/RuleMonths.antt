@@ -13,7 +13,7 @@ use borrow.Author.Tests.{leb-true, eqb-true, eq-eqb, ne_eqb, le-leb, lt-leb, not
 use Rattle.gregorian.specs.Calendar.{month_length, total, day_number, last_year, last_day, is_date, date}
 use Rattle.gregorian.specs.declared.Date.{Date}
 use Rattle.gregorian.specs.declared.days.CalendarDay.{CalendarDay}
-use Rattle.gregorian.specs.Inner.{Exists, SameDay}
+use Rattle.gregorian.specs.Inner.{Exists}
 use Rattle.gregorian.proofs.Tests.{and_left, and_right, every, every-at}
 use Rattle.gregorian.proofs.Laws.{days-on, is-date, by_number}
 use Rattle.gregorian.proofs.DaySteps.{is-date-of, number_is}
@@ -92,18 +92,18 @@ one-order a b c d f g = elim (dec_le a b) [
     not-le : (i j : ℕ) → (i ≤ j → ⊥) → leb i j ≡ false
     not-le i j h = lt-leb i j (omega arith)
 
-pub same-within : (day : CalendarDay) (m a k : ℕ) → SameDay day → day.date.month ≡ m
+pub same-within : (day : CalendarDay) (m a k : ℕ) → day.date.month ≡ m
     → (let from = day_number day.date.year m a in is_between a (a + k) day.date.day ≡ is_between from (from + k) day.number)
 unfolding day_number
-same-within day m a k s e =
+same-within day m a k e =
     let d = day.date.day in
     let from = day_number day.date.year m a in
-    let n = sym (number_is day s) ∙ ap (λ (i : ℕ). day_number day.date.year i d) e in
+    let n = sym (number_is _ _ day.low day.same) ∙ ap (λ (i : ℕ). day_number day.date.year i d) e in
     let low = one-order a d from day.number (λ l. omega (arith, n, l)) (λ l. omega (arith, n, l)) in
     let high = one-order d (a + k) day.number (from + k) (λ l. omega (arith, n, l)) (λ l. omega (arith, n, l)) in
     λ j. low j && high j
 
-module _ (day : CalendarDay) (s : SameDay day) (h : day.number ≤ last_day) where
+module _ (day : CalendarDay) where
   abbrev n : ℕ
   n = day.number
 
@@ -114,10 +114,10 @@ module _ (day : CalendarDay) (s : SameDay day) (h : day.number ≤ last_day) whe
   month = day.date.month
 
   pub year-range : (1 ≤ y) × (y ≤ last_year)
-  year-range = let d = is-date _ _ _ (is-date-of day s h) in (d.exists.y-low, d.y-high)
+  year-range = let d = is-date _ _ _ (is-date-of _ _ day.low day.same day.high) in (d.exists.y-low, d.y-high)
 
   pub month-range : (1 ≤ month) × (month ≤ 12)
-  month-range = let d = is-date _ _ _ (is-date-of day s h) in (d.exists.m-low, d.exists.m-high)
+  month-range = let d = is-date _ _ _ (is-date-of _ _ day.low day.same day.high) in (d.exists.m-low, d.exists.m-high)
 
   ends : (m a b : ℕ) → day_number y m b + a ≡ day_number y m a + b
   unfolding day_number
@@ -130,7 +130,7 @@ module _ (day : CalendarDay) (s : SameDay day) (h : day.number ≤ last_day) whe
       let k = n - day_number y m a in
       let at_most : a + k ≤ b = omega (arith, ends m a b, l, u) in
       let g : Exists y m (a + k) = record { y-low = x.y-low; m-low = x.m-low; m-high = x.m-high; d-low = omega (arith, x.d-low); d-high = omega (arith, z.d-high, at_most) } in
-      let e : date y m (a + k) ≡ day.date = by_number y m (a + k) n g (days-on y m a k ∙ omega (arith, l)) ∙ sym s.same in
+      let e : date y m (a + k) ≡ day.date = by_number y m (a + k) n g (days-on y m a k ∙ omega (arith, l)) ∙ sym day.same in
       record { month = sym (ap (λ (t : Date). t.month) e); low = omega (arith, ap (λ (t : Date). t.day) e); high = omega (arith, at_most, ap (λ (t : Date). t.day) e) }
 
   -- the same from days that every year has
@@ -154,7 +154,7 @@ module _ (day : CalendarDay) (s : SameDay day) (h : day.number ≤ last_day) whe
 
   -- the nth weekday of month m
   pub nth : (m w : ℕ) (k : ℤ) → Fits month (m ∷ []) (is_day (nth_weekday_of_month y m w k) n)
-  nth m w k e = one-month month m (ap (λ (t : Date). t.month) s.same ∙ (nth-weekday y m w k n (the-day _ n e)).month)
+  nth m w k e = one-month month m (ap (λ (t : Date). t.month) day.same ∙ (nth-weekday y m w k n (the-day _ n e)).month)
 
   -- ---- Easter
 

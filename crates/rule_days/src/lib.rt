@@ -4,7 +4,6 @@
 
 ghost use Rattle.std.specs.Prelude.{◌≡◌, ◌+◌, ◌≤◌, eqb};
 ghost use Rattle.gregorian.specs.Calendar.{last_day, day_number};
-ghost use Rattle.gregorian.specs.Inner.{SameDay};
 ghost use Rattle.utils.specs.Weekday.{nth_weekday_of_month};
 ghost use Rattle.utils.specs.Easter.{calculate_good_friday};
 ghost use Rattle.rule_days.specs.Days.{is_day, adjust_for_weekend};
@@ -17,7 +16,7 @@ use utils::nth_weekday_of_month;
 
 // Day d of the month.
 pub fn fixed_day(day: CalendarDay, month: u32, d: u32) -> u32
-    requires { SameDay day × (day.number ≤ last_day) × (day.date.month ≡ month) × (d ≤ 31) }
+    requires { (day.date.month ≡ month) × (d ≤ 31) }
     ensures { (result ≡ day_number day.date.year month d) × (d ≤ result) × (result ≤ last_day + 31) }
 {
     day.number - day.date.day + d
@@ -37,7 +36,7 @@ fn adjust_for_weekend(n: u32) -> u32
 
 // Whether a day is day `first` of the month or one of the k days after it.
 pub fn is_within(day: CalendarDay, month: u32, first: u32, k: u32) -> bool
-    requires { SameDay day × (day.date.month ≡ month) × (first ≤ 31) × (k ≤ 31) }
+    requires { (day.date.month ≡ month) × (first ≤ 31) × (k ≤ 31) }
     ensures { let from = day_number day.date.year month first in result ≡ is_between from (from + k) day.number }
 {
     (first <= day.date.day) & (day.date.day <= first + k)
@@ -46,7 +45,7 @@ pub fn is_within(day: CalendarDay, month: u32, first: u32, k: u32) -> bool
 // Whether a day is day d of the month or, from a weekend, the Monday that it moves to. Only that day and the two after it are
 // compared.
 pub fn is_observed(day: CalendarDay, month: u32, d: u32) -> bool
-    requires { SameDay day × (day.number ≤ last_day) × (day.date.month ≡ month) × (d ≤ 31) }
+    requires { (day.date.month ≡ month) × (d ≤ 31) }
     ensures { result ≡ eqb day.number (adjust_for_weekend (day_number day.date.year month d)) }
 {
     if !is_within(day, month, d, 2) {
@@ -74,14 +73,7 @@ pub fn is_around_easter(date: Date) -> bool
 }
 
 pub fn is_good_friday(day: CalendarDay) -> bool
-    requires { SameDay day × (day.number ≤ last_day) }
     ensures { result ≡ is_day (calculate_good_friday day.date.year) day.number }
 {
-    if !is_around_easter(day.date) {
-        return false;
-    }
-    let Some(good_friday) = calculate_good_friday(day.date.year) else {
-        return false;
-    };
-    day.number == good_friday
+    is_around_easter(day.date) && calculate_good_friday(day.date.year) == Some(day.number)
 }

@@ -4,4 +4,4 @@ use Rattle.markets.proofs.MonthFirst.{month-first}
 use Rattle.markets.proofs.is_holiday.Goals as goal
 
 pub returns : goal.returns
-returns c = c.is_holiday_on.ensures ∙ month-first c.args.market c.args.day c.requires.0 c.requires.1
+returns c = c.is_holiday_on.ensures ∙ month-first c.args.market c.args.day

@@ -17,7 +17,7 @@ pub returns-then-not-is_weekend : goal.returns-then-not-is_weekend
 unfolding is_trading_day
 returns-then-not-is_weekend c =
     let a = c.args in
-    ap not (c.is_holiday_on.ensures ∙ month-first a.market a.day c.requires.0 c.requires.1)
+    ap not (c.is_holiday_on.ensures ∙ month-first a.market a.day)
     ∙ other (is_holiday a.market a.day.number) _ (sym c.is_weekend.ensures ∙ c.if-not-is_weekend.true)
 
 pub returns-else-not-is_weekend : goal.returns-else-not-is_weekend

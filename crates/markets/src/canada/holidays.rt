@@ -2,7 +2,6 @@
 // [month-first]: an arm computes the holidays that can fall in it alone.
 ghost use Rattle.std.specs.Prelude.{◌≡◌, ◌≤◌, eqb, pos};
 ghost use Rattle.gregorian.specs.Calendar.{monday, last_day};
-ghost use Rattle.gregorian.specs.Inner.{SameDay};
 ghost use Rattle.utils.specs.Weekday.{nth_weekday_of_month};
 ghost use Rattle.rule_days.specs.Days.{is_day};
 ghost use Rattle.rule_days.specs.Inner.{any_of};
@@ -15,7 +14,6 @@ use rule_days::{fixed_day, is_good_friday, is_observed, is_within, nth_weekday_f
 
 // Whether a day is a holiday of its year. On Monday if on a weekend: 1 January, 1 July and 25 December.
 pub fn is_canada_holiday(day: CalendarDay) -> bool
-    requires { SameDay day × (day.number ≤ last_day) }
     ensures { result ≡ any_of day.date.month (canada_rules day.date.year day.number) }
 {
     let n = day.number;
@@ -50,7 +48,7 @@ fn is_family_day(day: CalendarDay) -> bool
 
 // The Monday on or before 24 May.
 fn victoria_day(day: CalendarDay) -> u32
-    requires { SameDay day × (day.number ≤ last_day) × (day.date.month ≡ 5) }
+    requires { day.date.month ≡ 5 }
     ensures { result ≡ victoria_day day.date.year }
 {
     utils::last_up_to(MONDAY, fixed_day(day, 5, 24))
@@ -78,7 +76,7 @@ fn is_thanksgiving(day: CalendarDay) -> bool
 
 // 26 December, two days later if on a weekend.
 fn boxing_day(day: CalendarDay) -> u32
-    requires { SameDay day × (day.number ≤ last_day) × (day.date.month ≡ 12) }
+    requires { day.date.month ≡ 12 }
     ensures { result ≡ boxing_day day.date.year }
 {
     let boxing = fixed_day(day, 12, 26);
@@ -91,7 +89,7 @@ fn boxing_day(day: CalendarDay) -> u32
 
 // Only 26 December and the two days after it are compared.
 fn is_boxing_day(day: CalendarDay) -> bool
-    requires { SameDay day × (day.number ≤ last_day) × (day.date.month ≡ 12) }
+    requires { day.date.month ≡ 12 }
     ensures { result ≡ eqb day.number (boxing_day day.date.year) }
 {
     if !is_within(day, 12, 26, 2) {

@@ -2,7 +2,6 @@
 // arm computes the holidays that can fall in it alone.
 ghost use Rattle.std.specs.Prelude.{◌≡◌, ◌≤◌, pos};
 ghost use Rattle.gregorian.specs.Calendar.{monday, last_day};
-ghost use Rattle.gregorian.specs.Inner.{SameDay};
 ghost use Rattle.utils.specs.Weekday.{nth_weekday_of_month, minus};
 ghost use Rattle.utils.specs.Easter.{calculate_easter_monday};
 ghost use Rattle.rule_days.specs.Days.{is_day};
@@ -18,7 +17,6 @@ use utils::easter::calculate_easter_monday;
 
 // Whether a day is a holiday of its year. On Monday if on a weekend: 1 January.
 pub fn is_uk_holiday(day: CalendarDay) -> bool
-    requires { SameDay day × (day.number ≤ last_day) }
     ensures { result ≡ any_of day.date.month (uk_rules day.date.year day.number) }
 {
     let month = day.date.month;
@@ -34,16 +32,9 @@ pub fn is_uk_holiday(day: CalendarDay) -> bool
 }
 
 fn is_easter_monday(day: CalendarDay) -> bool
-    requires { SameDay day × (day.number ≤ last_day) }
     ensures { result ≡ is_day (calculate_easter_monday day.date.year) day.number }
 {
-    if !is_around_easter(day.date) {
-        return false;
-    }
-    let Some(easter_monday) = calculate_easter_monday(day.date.year) else {
-        return false;
-    };
-    day.number == easter_monday
+    is_around_easter(day.date) && calculate_easter_monday(day.date.year) == Some(day.number)
 }
 
 // The 1st Monday of May.
@@ -79,7 +70,7 @@ fn is_summer_bank_holiday(day: CalendarDay) -> bool
 // Two days: 25 and 28 December if Christmas Day is a Friday, 27 and 28 if a Saturday, 26 and 27 if a Sunday, else 25 and 26.
 // Only these four are compared.
 fn is_christmas_or_boxing_day(day: CalendarDay) -> bool
-    requires { SameDay day × (day.number ≤ last_day) × (day.date.month ≡ 12) }
+    requires { day.date.month ≡ 12 }
     ensures { result ≡ is_christmas_or_boxing_day day.date.year day.number }
 {
     if !is_within(day, 12, 25, 3) {

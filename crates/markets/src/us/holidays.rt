@@ -2,7 +2,6 @@
 // [month-first]: an arm computes the holidays that can fall in it alone.
 ghost use Rattle.std.specs.Prelude.{◌≡◌, ◌&&◌, ◌≤◌, leb, eqb};
 ghost use Rattle.gregorian.specs.Calendar.{last_day};
-ghost use Rattle.gregorian.specs.Inner.{SameDay};
 ghost use Rattle.rule_days.specs.Days.{is_day};
 ghost use Rattle.rule_days.specs.Inner.{any_of};
 ghost use Rattle.markets.specs.Us.{mlk_day, presidents_day, memorial_day, independence_day, labor_day, thanksgiving_day, juneteenth};
@@ -15,7 +14,6 @@ use utils::nth_weekday_of_month;
 
 // Whether a day is a holiday of its year. On Monday if on a weekend: 1 January and 25 December.
 pub fn is_us_holiday(day: CalendarDay) -> bool
-    requires { SameDay day × (day.number ≤ last_day) }
     ensures { result ≡ any_of day.date.month (us_rules day.date.year day.number) }
 {
     let month = day.date.month;
@@ -66,7 +64,7 @@ fn is_memorial_day(day: CalendarDay) -> bool
 
 // 19 June, on Monday if on a weekend, from 2021 on.
 fn is_juneteenth(day: CalendarDay) -> bool
-    requires { SameDay day × (day.number ≤ last_day) × (day.date.month ≡ 6) }
+    requires { day.date.month ≡ 6 }
     ensures { result ≡ (leb 2021 day.date.year && eqb day.number (juneteenth day.date.year)) }
 {
     let year = day.date.year;
@@ -78,7 +76,7 @@ fn is_juneteenth(day: CalendarDay) -> bool
 
 // 4 July, on Friday if on a Saturday and on Monday if on a Sunday.
 fn independence_day(day: CalendarDay) -> u32
-    requires { SameDay day × (day.number ≤ last_day) × (day.date.month ≡ 7) }
+    requires { day.date.month ≡ 7 }
     ensures { result ≡ independence_day day.date.year }
 {
     let july_4 = fixed_day(day, 7, 4);
@@ -91,7 +89,7 @@ fn independence_day(day: CalendarDay) -> u32
 
 // Only 4 July and the days beside it are compared.
 fn is_independence_day(day: CalendarDay) -> bool
-    requires { SameDay day × (day.number ≤ last_day) × (day.date.month ≡ 7) }
+    requires { day.date.month ≡ 7 }
     ensures { result ≡ eqb day.number (independence_day day.date.year) }
 {
     if !is_within(day, 7, 3, 2) {

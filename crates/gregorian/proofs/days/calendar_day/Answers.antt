@@ -1,6 +1,8 @@
 -- `gregorian::days::calendar_day` meets its contract: a date and its number.
-use Rattle.gregorian.proofs.DaySteps.{same-day}
+use Rattle.gregorian.proofs.DaySteps.{numbered}
 use Rattle.gregorian.proofs.days.calendar_day.Goals as goal
 
-pub returns : goal.returns
-returns c = let e = c.day_number.ensures in (same-day _ _ _ _ c.requires e, e)
+pub invariant_of-result : goal.invariant_of-result
+invariant_of-result c =
+    let n = numbered _ _ _ _ c.requires c.day_number.ensures in
+    record { low = n.0; high = n.1; same = n.2 }

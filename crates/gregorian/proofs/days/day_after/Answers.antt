@@ -1,13 +1,13 @@
 -- `gregorian::days::day_after` meets its contract: the number and the date go on together.
 use native.Mathlib.Omega.{arith}
-use mathlib.Core.Path.{refl, ◌∙◌}
+use mathlib.Core.Path.{◌∙◌}
 use Rattle.gregorian.proofs.DaySteps.{is-date-of, after_same}
 use Rattle.gregorian.proofs.days.day_after.Goals as goal
 
 pub date_after-requires : goal.date_after-requires
-date_after-requires c = is-date-of _ c.requires.0 c.requires.1
+date_after-requires c = let day = c.args.day in is-date-of _ _ day.low day.same day.high
 
-pub returns : goal.returns
-returns c =
-    let s = c in
-    (record { low = omega arith; same = c.date_after.ensures ∙ after_same s.args.day s.requires.0 }, refl)
+pub invariant_of-result : goal.invariant_of-result
+invariant_of-result c =
+    let day = c.args.day in
+    record { low = omega arith; high = c.requires; same = c.date_after.ensures ∙ after_same _ _ day.low day.same }

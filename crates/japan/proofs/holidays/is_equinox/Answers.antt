@@ -15,7 +15,7 @@ returns-then-year-gt2030 c = let year = c.args.day.date.year in simp (le-leb 202
 
 pub is_fixed_holiday-requires : goal.is_fixed_holiday-requires
 is_fixed_holiday-requires c =
-    (c.requires.0, c.requires.1, c.requires.2, equinox-day c.args.days _ c.if-year-lt2020.false c.if-year-gt2030.false c.requires.3)
+    (c.requires.0, equinox-day c.args.days _ c.if-year-lt2020.false c.if-year-gt2030.false c.requires.1)
 
 pub returns : goal.returns
 unfolding equinox
