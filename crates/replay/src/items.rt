@@ -10,9 +10,10 @@ use std::mem;
 pub struct Malformed;
 
 // What the next byte follows.
-#[derive(Clone, Copy, PartialEq, Eq)]
+#[derive(Clone, Copy, Default, PartialEq, Eq)]
 enum After {
     // A space, or nothing.
+    #[default]
     Space,
     // A digit: the number as far as it was read.
     Digit(u32),
@@ -24,20 +25,13 @@ enum After {
     Quote,
 }
 
-#[derive(Drop)]
+#[derive(Default, Drop)]
 pub struct Items {
     pub numbers: Numbers,
     after: After,
 }
 
 impl Items {
-    pub fn new() -> Self {
-        Self {
-            numbers: Numbers::new(),
-            after: After::Space,
-        }
-    }
-
     pub fn is_in_text(&self) -> bool {
         self.after == After::Text
     }
@@ -105,7 +99,7 @@ impl Items {
 
     // Ends the number or the text whose last byte was read.
     pub fn end(&mut self) -> Result<(), Malformed> {
-        match mem::replace(&mut self.after, After::Space) {
+        match mem::take(&mut self.after) {
             After::Digit(value) => self.push_number(value),
             After::Quote => Ok(()),
             _ => Err(Malformed),

@@ -30,38 +30,38 @@ pub enum Kind {
     MonthSheet,
 }
 
-// How many kinds there are.
-pub const KINDS: usize = 24;
-
-// Every kind, in the order in which the counts are printed.
-pub const ALL: [Kind; KINDS] = [
-    Kind::NthWeekdayOfMonth,
-    Kind::LastWeekdayOfMonth,
-    Kind::CalculateEaster,
-    Kind::CalculateGoodFriday,
-    Kind::CalculateEasterMonday,
-    Kind::IsTradingDay,
-    Kind::IsHoliday,
-    Kind::Holidays,
-    Kind::HolidaysAnyYear,
-    Kind::TradingDays,
-    Kind::TradingHours,
-    Kind::IsOpen,
-    Kind::SessionNew,
-    Kind::SessionContains,
-    Kind::TradingHoursNew,
-    Kind::WithEarlyClose,
-    Kind::IsEarlyClose,
-    Kind::MarketClose,
-    Kind::IsOpenAt,
-    Kind::NextTradingDay,
-    Kind::PreviousTradingDay,
-    Kind::TradingDaysInMonth,
-    Kind::CountTradingDays,
-    Kind::MonthSheet,
-];
-
 impl Kind {
+    // How many kinds there are.
+    pub const COUNT: usize = 24;
+
+    // Every kind, in the order in which the counts are printed.
+    pub const ALL: [Kind; Kind::COUNT] = [
+        Kind::NthWeekdayOfMonth,
+        Kind::LastWeekdayOfMonth,
+        Kind::CalculateEaster,
+        Kind::CalculateGoodFriday,
+        Kind::CalculateEasterMonday,
+        Kind::IsTradingDay,
+        Kind::IsHoliday,
+        Kind::Holidays,
+        Kind::HolidaysAnyYear,
+        Kind::TradingDays,
+        Kind::TradingHours,
+        Kind::IsOpen,
+        Kind::SessionNew,
+        Kind::SessionContains,
+        Kind::TradingHoursNew,
+        Kind::WithEarlyClose,
+        Kind::IsEarlyClose,
+        Kind::MarketClose,
+        Kind::IsOpenAt,
+        Kind::NextTradingDay,
+        Kind::PreviousTradingDay,
+        Kind::TradingDaysInMonth,
+        Kind::CountTradingDays,
+        Kind::MonthSheet,
+    ];
+
     pub fn name(self) -> &'static str {
         match self {
             Kind::NthWeekdayOfMonth => "nth_weekday_of_month",
@@ -93,7 +93,8 @@ impl Kind {
 
     // The kind of call with the name.
     pub fn of(name: &[u8]) -> Option<Kind> {
-        ALL.iter()
+        Kind::ALL
+            .iter()
             .copied()
             .find(|kind| kind.name().as_bytes() == name)
     }

@@ -30,7 +30,7 @@ fn replay(rt: &(impl Files + Print), path: &str) -> io::Result<()> {
     let Ok(mut file) = fs::open(rt, path) else {
         return println!(rt; "cannot be opened");
     };
-    let mut reader = Reader::new();
+    let mut reader = Reader::default();
     let mut buffer = [0; BUFFER_LENGTH];
     // A proved loop has to end, and nothing says that a file does. No file uses up so many turns.
     for _ in 0..u64::MAX {

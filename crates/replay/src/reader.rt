@@ -6,20 +6,13 @@ use crate::{calls, report};
 use std::{io, mem};
 
 // A file as far as it was read: the line that is being read, and the counts of those before it.
-#[derive(Drop)]
+#[derive(Default, Drop)]
 pub struct Reader {
     row: Row,
     tally: Tally,
 }
 
 impl Reader {
-    pub fn new() -> Self {
-        Self {
-            row: Row::new(),
-            tally: Tally::new(),
-        }
-    }
-
     pub fn push_all(&mut self, rt: &impl Print, bytes: &[u8]) -> io::Result<()> {
         for byte in bytes {
             self.push(rt, *byte)?;
@@ -38,7 +31,7 @@ impl Reader {
 
     fn end_line(&mut self, rt: &impl Print) -> io::Result<()> {
         self.tally.count_line();
-        let row = mem::replace(&mut self.row, Row::new());
+        let row = mem::take(&mut self.row);
         if row.is_empty() || row.is_comment() {
             return Ok(());
         }

@@ -1,7 +1,6 @@
 // What the program prints.
-use crate::kind;
 use crate::kind::Kind;
-use crate::tally::Tally;
+use crate::tally::{Counts, Tally};
 use std::io;
 
 pub fn write_difference(rt: &impl Print, kind: Kind, line: u64) -> io::Result<()> {
@@ -14,8 +13,8 @@ pub fn write_not_understood(rt: &impl Print, line: u64) -> io::Result<()> {
 
 // A line for each kind of call that the file has rows of.
 fn write_kinds(rt: &impl Print, tally: &Tally) -> io::Result<()> {
-    for (kind, counts) in kind::ALL.iter().zip(&tally.counts) {
-        let (compared, differ) = (counts.compared, counts.differ);
+    for (kind, counts) in Kind::ALL.iter().zip(&tally.counts) {
+        let Counts { compared, differ } = *counts;
         if compared > 0 {
             println!(rt; "{kind}: {compared} compared, {differ} differ")?;
         }

@@ -8,8 +8,9 @@ use arrayvec::ArrayVec;
 const LONGEST_NAME: usize = 64;
 
 // The part of the line that the next byte belongs to.
-#[derive(Clone, Copy, PartialEq, Eq)]
+#[derive(Clone, Copy, Default, PartialEq, Eq)]
 enum Part {
+    #[default]
     Start,
     Name,
     Inputs,
@@ -20,7 +21,7 @@ enum Part {
 }
 
 // A line as far as it was read.
-#[derive(Drop)]
+#[derive(Default, Drop)]
 pub struct Row {
     part: Part,
     name: ArrayVec<u8, LONGEST_NAME>,
@@ -37,15 +38,6 @@ pub struct Stored {
 }
 
 impl Row {
-    pub fn new() -> Self {
-        Self {
-            part: Part::Start,
-            name: ArrayVec::new(),
-            inputs: Items::new(),
-            answers: Items::new(),
-        }
-    }
-
     // Whether no byte of the line was read.
     pub fn is_empty(&self) -> bool {
         self.part == Part::Start

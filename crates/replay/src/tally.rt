@@ -1,34 +1,22 @@
 // How many rows of a file were compared and how many differ, by kind of call.
-use crate::kind::{KINDS, Kind};
+use crate::kind::Kind;
 
-#[derive(Clone, Copy)]
+#[derive(Clone, Copy, Default)]
 pub struct Counts {
     pub compared: u64,
     pub differ: u64,
 }
 
-#[derive(Clone, Copy)]
+#[derive(Clone, Copy, Default)]
 pub struct Tally {
     // How many lines were read: the number of the last of them.
     pub line: u64,
     pub not_understood: u64,
-    // By kind, in the order of `kind::ALL`.
-    pub counts: [Counts; KINDS],
+    // In the order of `Kind::ALL`.
+    pub counts: [Counts; Kind::COUNT],
 }
 
 impl Tally {
-    pub fn new() -> Self {
-        let none = Counts {
-            compared: 0,
-            differ: 0,
-        };
-        Self {
-            line: 0,
-            not_understood: 0,
-            counts: [none; KINDS],
-        }
-    }
-
     // Counts go up to the largest number, which no file reaches.
     pub fn count_line(&mut self) {
         self.line = self.line.saturating_add(1);
