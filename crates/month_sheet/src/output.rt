@@ -30,6 +30,5 @@ pub fn of_input(buffer: &[u8; INPUT_LENGTH], n: usize, out: &mut [u8; OUTPUT_LEN
         → (result ≡ length (printed input)) × (out.new ≡ overwrite (printed input) out.old) }
     ensures prefix_len { (result ≤ length out.new) × (result ≡ length (take result out.new)) }
 {
-    let text: &[u8] = buffer;
-    of_text(&text[..n], out)
+    of_text(&buffer[..n], out)
 }

@@ -19,8 +19,26 @@ pub fn trading_days_in_month(inputs: &[u32]) -> Option<Numbers> {
 
 // The count from the first three numbers after the market to the last three.
 pub fn count_trading_days(inputs: &[u32]) -> Option<Numbers> {
-    let &[market, y1, m1, d1, y2, m2, d2] = inputs else {
+    let &[
+        market,
+        start_year,
+        start_month,
+        start_day,
+        end_year,
+        end_month,
+        end_day,
+    ] = inputs
+    else {
         return None;
     };
-    Some(tc_count_trading_days(market, y1, m1, d1, y2, m2, d2).fields())
+    let answer = tc_count_trading_days(
+        market,
+        start_year,
+        start_month,
+        start_day,
+        end_year,
+        end_month,
+        end_day,
+    );
+    Some(answer.fields())
 }

@@ -9,8 +9,9 @@ pub const CAPACITY: usize = 128;
 
 pub type Numbers = ArrayVec<u32, CAPACITY>;
 
+// The list, which a row can hold.
 pub fn numbers(list: &[u32]) -> Numbers
-    requires { length list.now ≤ 128 }
+    requires { length list.now ≤ CAPACITY }
     ensures { result.items ≡ list.now }
 {
     Numbers::try_from(list).unwrap()

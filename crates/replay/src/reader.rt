@@ -53,7 +53,7 @@ impl Reader {
     }
 
     // The counts of the whole file. A last line that has no line feed is not understood.
-    pub fn finish(&mut self, rt: &impl Print) -> io::Result<Tally> {
+    pub fn finish(mut self, rt: &impl Print) -> io::Result<Tally> {
         if !self.row.is_empty() {
             self.tally.count_line();
             self.refuse(rt)?;

@@ -48,7 +48,7 @@ impl Row {
         self.part == Part::Comment
     }
 
-    // The row after one byte more, which is not the line feed.
+    // Reads one byte more, which is not the line feed.
     pub fn push(&mut self, byte: u8) {
         if self.try_push(byte).is_err() {
             self.part = Part::Malformed;
