@@ -14,20 +14,14 @@ pub fn is_holiday_in_any_year(market: u32, year: u32, month: u32, day: u32) -> b
     all_years_day(market, year, month, day).holiday
 }
 
-// Each holiday of the year as month * 100 + day.
+// Each holiday of the year as month * 100 + day. Those that are no date are no holidays.
 pub fn holidays<F: Fn(u32, u32, u32, u32) -> bool>(inputs: &[u32], is_holiday: F) -> Option<Numbers>
     requires { F.IsAlwaysCallable is_holiday }
 {
     let &[market, year] = inputs else { return None };
     let mut list = Numbers::new();
-    // 12 times 31 days; those that are no date are no holidays.
-    for i in 0..372 {
-        let month = i / 31 + 1;
-        let day = i % 31 + 1;
-        if is_holiday(market, year, month, day) {
-            list.try_push(100 * month + day).ok()?;
-        }
-    }
+    list.extend((101..1232).filter(|n| is_holiday(market, year, n / 100, n % 100)))
+        .ok()?;
     Some(list).filter(|list| !list.is_empty())
 }
 
@@ -37,10 +31,7 @@ pub fn trading_days(inputs: &[u32]) -> Option<Numbers> {
         return None;
     };
     let mut list = Numbers::new();
-    for day in 1..32 {
-        if tc_is_trading_day(market, year, month, day).value == 1 {
-            list.try_push(day).ok()?;
-        }
-    }
+    list.extend((1..32).filter(|day| tc_is_trading_day(market, year, month, *day).value == 1))
+        .ok()?;
     Some(list).filter(|list| !list.is_empty())
 }
