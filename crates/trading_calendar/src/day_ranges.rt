@@ -4,6 +4,7 @@ ghost use Rattle.range_calls.specs.RangeCalls.{trading_days_in_month_result, tra
 ghost use Rattle.answers.specs.Answers.{count_answer};
 
 use answers::counts::CountAnswer;
+use gregorian::Date;
 
 // [month-list]: how many days were written to the buffer, one byte for each, or the first of errors 8, 1, 2 and 9 that applies, with
 // which nothing is written [error-writes-nothing].
@@ -27,13 +28,15 @@ pub fn tc_count_trading_days(
     ensures { result ≡ count_answer (count_trading_days_result market start_year start_month start_day
         end_year end_month end_day) }
 {
-    CountAnswer::from(range_calls::counts::count_trading_days(
-        market,
-        start_year,
-        start_month,
-        start_day,
-        end_year,
-        end_month,
-        end_day,
-    ))
+    let start = Date {
+        year: start_year,
+        month: start_month,
+        day: start_day,
+    };
+    let end = Date {
+        year: end_year,
+        month: end_month,
+        day: end_day,
+    };
+    CountAnswer::from(range_calls::counts::count_trading_days(market, start, end))
 }

@@ -17,14 +17,14 @@ use schedule::{Session, TradingHours};
 pub fn tc_trading_hours(market: u32, year: u32, month: u32, day: u32) -> HoursAnswer
     ensures { result ≡ hours_answer (trading_hours_result market year month day) }
 {
-    HoursAnswer::from(calendar::trading_hours(market, year, month, day))
+    HoursAnswer::from(calendar::trading_hours(market, Date { year, month, day }))
 }
 
 // [is-open]: yes or no, or the first of errors 8, 5, 7 and 1 that applies.
 pub fn tc_is_open(market: u32, year: u32, month: u32, day: u32, time: u32) -> BoolAnswer
     ensures { result ≡ bool_answer (is_open_result market year month day time) }
 {
-    BoolAnswer::from(calendar::is_open(market, year, month, day, time))
+    BoolAnswer::from(calendar::is_open(market, Date { year, month, day }, time))
 }
 
 // [session-new]: the session, or the first of errors 7 and 3 that applies.
