@@ -60,11 +60,11 @@ days-none a b h = ap (days_from a) (omega arith) ∙ from-none a
 pub days-next : (a b : ℕ) → a ≤ b → days a b ≡ a ∷ days (suc a) b
 days-next a b h = ap (days_from a) (omega arith) ∙ from_next a (suc b - suc a)
 
-pub days_step : (a b : ℕ) → a ≤ b → days a b ≡ a ∷ days (a + 1) b
-days_step a b h = let one : suc a ≡ a + 1 = omega arith in days-next a b h ∙ ap (λ (i : ℕ). a ∷ days i b) one
-
-pub day-first : (a b n : ℕ) → a ≤ b → n ≡ a → days a b ≡ n ∷ days (suc n) b
-day-first a b n h e = days-next a b h ∙ sym (ap (λ (i : ℕ). i ∷ days (suc i) b) e)
+-- day n first
+pub day-first : (a b n : ℕ) → a ≤ b → n ≡ a → days a b ≡ n ∷ days (n + 1) b
+day-first a b n h e =
+    let next : suc a ≡ n + 1 = omega arith in
+    days-next a b h ∙ ap₂ (λ (i j : ℕ). i ∷ days j b) (sym e) next
 
 from-length : (k a : ℕ) → length (days_from a k) ≡ k
 unfolding days_from
