@@ -144,14 +144,14 @@ module _ (p : ℕ → Bool) where
   unfolding filter
   filter-next n l = refl
 
+  -- what passes of a list, by its first item
+  pub filter-first : (n : ℕ) (l rest : List ℕ) → l ≡ n ∷ rest → (t : Bool) → p n ≡ t → filter p l ≡ keep t n (filter p rest)
+  filter-first n l rest e t q = ap (filter p) e ∙ filter-next n rest ∙ ap (λ (u : Bool). keep u n (filter p rest)) q
+
   -- The list of a range: day a is looked at, and then the days after it; and none is left.
   module _ (a b : ℕ) where
     trading-day : a ≤ b → (t : Bool) → p a ≡ t → trading_days p a b ≡ keep t a (trading_days p (a + 1) b)
-    trading-day h t e =
-        let one : suc a ≡ a + 1 = omega arith in
-        ap (filter p) (days-next a b h)
-        ∙ filter-next a (days (suc a) b)
-        ∙ ap₂ (λ (u : Bool) (i : ℕ). keep u a (trading_days p i b)) e one
+    trading-day h = filter-first a (days a b) (days (a + 1) b) (day-first a b a h refl)
 
     pub trading-kept : a ≤ b → p a ≡ true → trading_days p a b ≡ a ∷ trading_days p (a + 1) b
     trading-kept h e = trading-day h true e
