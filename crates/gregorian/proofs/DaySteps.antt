@@ -8,6 +8,7 @@ use native.Mathlib.Omega.{arith}
 use native.Mathlib.Decide.{dec_le}
 use borrow.Author.Tests.{lt-ltb, le-ltb}
 use Rattle.gregorian.specs.declared.Date.{Date}
+use Rattle.gregorian.specs.declared.days.CalendarDay.{CalendarDay}
 use Rattle.gregorian.specs.Calendar.{total, month_length, day_number, last_day, is_date, is_date_of, day_after, date_of, date, number, day_before}
 use Rattle.gregorian.proofs.Laws.{DateExists, is-date, month-low, to-month, to-year, by_number, number-of-date, date-of-is, number-range}
 
@@ -81,16 +82,16 @@ numbered y m d n h e =
     let r = number-range y m d h in
     (omega (arith, e, r.0), omega (arith, e, r.1), by_number y m d n (is-date y m d h).exists (sym e))
 
-module _ (n : ℕ) (t : Date) (low : 1 ≤ n) (same : t ≡ date_of n) where
-  pub number_is : number t ≡ n
-  number_is = ap number same ∙ number-of-date n low
+module _ (day : CalendarDay) where
+  pub number_is : number day.date ≡ day.number
+  number_is = ap number day.same ∙ number-of-date day.number day.low
 
-  pub is-date-of : n ≤ last_day → is_date_of t ≡ true
-  is-date-of h = ap is_date_of same ∙ date-of-is n low h
+  pub is-date-of : is_date_of day.date ≡ true
+  is-date-of = ap is_date_of day.same ∙ date-of-is day.number day.low day.high
 
-  pub after_same : day_after t ≡ date_of (n + 1)
+  pub after_same : day_after day.date ≡ date_of (day.number + 1)
   unfolding date_of
-  after_same = let e : suc n ≡ n + 1 = omega arith in ap day_after same ∙ ap date_of e
+  after_same = let e : suc day.number ≡ day.number + 1 = omega arith in ap day_after day.same ∙ ap date_of e
 
-  pub before_same : day_before t ≡ date_of (n - 1)
+  pub before_same : day_before day.date ≡ date_of (day.number - 1)
   before_same = ap (λ (n : ℕ). date_of (n - 1)) number_is

@@ -34,7 +34,7 @@ fn month_goes_on(date: Date) -> bool
     date.day < days_in_month(date.year, date.month)
 }
 
-pub fn date_after(date: Date) -> Date
+fn date_after(date: Date) -> Date
     requires { is_date_of date ≡ true }
     ensures { result ≡ day_after date }
 {

@@ -9,7 +9,7 @@ use native.Mathlib.Nat.{zero-add}
 use native.Mathlib.Omega.{arith}
 use Rattle.ranges.specs.Ranges.{days_from, keep, filter, trading_days, one_more, count_from, count_trading_days, sum_of}
 use Rattle.ranges.specs.Agreement.{parts, Splits, count_of}
-use Rattle.ranges.proofs.Lists.{trading-split, all-fail, first_passes}
+use Rattle.ranges.proofs.Lists.{filter-first, trading-split, all-fail, first_passes}
 use Rattle.ranges.proofs.Search.{is-first, finds-one}
 
 pub splits-order : (a : ℕ) (splits : List ℕ) (b : ℕ) → Splits a splits b → a ≤ suc b
@@ -17,26 +17,13 @@ splits-order a [] b h = h
 splits-order a (c ∷ splits) b h = omega (arith, splits-order c splits b h.1)
 
 module _ (trades : ℕ → Bool) where
-  -- The count, for its loop: day a is looked at, and then the days after it; and none is left.
-  module _ (count a b : ℕ) where
-    count-day : a ≤ b → (t : Bool) → trades a ≡ t → count_from trades count a (suc b - a) ≡ count_from trades (one_more t count) (a + 1) (suc b - (a + 1))
-    unfolding count_from
-    count-day h t e =
-        let k : suc b - a ≡ suc (suc b - (a + 1)) = omega arith in
-        let one : suc a ≡ a + 1 = omega arith in
-        ap (count_from trades count a) k ∙ ap₂ (λ (u : Bool) (i : ℕ). count_from trades (one_more u count) i (suc b - (a + 1))) e one
+  -- The count of what is left of a list, for a loop: its first day, and the days after it.
+  module _ (count n : ℕ) (l rest : List ℕ) (e : l ≡ n ∷ rest) where
+    pub count-one : trades n ≡ true → count + length (filter trades l) ≡ count + 1 + length (filter trades rest)
+    count-one t = ap (λ (i : ℕ). count + i) (ap length (filter-first trades n l rest e true t)) ∙ omega arith
 
-    pub count-one : a ≤ b → trades a ≡ true → count_from trades count a (suc b - a) ≡ count_from trades (count + 1) (a + 1) (suc b - (a + 1))
-    count-one h e =
-        let one : suc count ≡ count + 1 = omega arith in
-        count-day h true e ∙ ap (λ (n : ℕ). count_from trades n (a + 1) (suc b - (a + 1))) one
-
-    pub count-passed : a ≤ b → trades a ≡ false → count_from trades count a (suc b - a) ≡ count_from trades count (a + 1) (suc b - (a + 1))
-    count-passed h e = count-day h false e
-
-    pub count-done : b < a → count_from trades count a (suc b - a) ≡ count
-    unfolding count_from
-    count-done h = let e : suc b - a ≡ 0 = omega arith in ap (count_from trades count a) e
+    pub count-passed : trades n ≡ false → count + length (filter trades l) ≡ count + length (filter trades rest)
+    count-passed t = ap (λ (i : ℕ). count + i) (ap length (filter-first trades n l rest e false t))
 
   counted-from : (k count a : ℕ) → count_from trades count a k ≡ count + length (filter trades (days_from a k))
   unfolding days_from filter count_from
@@ -68,7 +55,8 @@ module _ (trades : ℕ → Bool) where
 
   -- an empty part
   pub count_none : (a b : ℕ) → b < a → count_trading_days trades a b ≡ 0
-  count_none = count-done 0
+  unfolding count_from
+  count_none a b h = let e : suc b - a ≡ 0 = omega arith in ap (count_from trades 0 a) e
 
   pub parts-add-up : (a : ℕ) (splits : List ℕ) (b : ℕ) → 1 ≤ a → Splits a splits b → sum_of (count_of trades) (parts a splits b) ≡ count_trading_days trades a b
   parts-add-up a [] b o h = omega arith

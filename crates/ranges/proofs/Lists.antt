@@ -60,11 +60,11 @@ days-none a b h = ap (days_from a) (omega arith) ∙ from-none a
 pub days-next : (a b : ℕ) → a ≤ b → days a b ≡ a ∷ days (suc a) b
 days-next a b h = ap (days_from a) (omega arith) ∙ from_next a (suc b - suc a)
 
-pub days_step : (a b : ℕ) → a ≤ b → days a b ≡ a ∷ days (a + 1) b
-days_step a b h = let one : suc a ≡ a + 1 = omega arith in days-next a b h ∙ ap (λ (i : ℕ). a ∷ days i b) one
-
-pub day-first : (a b n : ℕ) → a ≤ b → n ≡ a → days a b ≡ n ∷ days (suc n) b
-day-first a b n h e = days-next a b h ∙ sym (ap (λ (i : ℕ). i ∷ days (suc i) b) e)
+-- day n first
+pub day-first : (a b n : ℕ) → a ≤ b → n ≡ a → days a b ≡ n ∷ days (n + 1) b
+day-first a b n h e =
+    let next : suc a ≡ n + 1 = omega arith in
+    days-next a b h ∙ ap₂ (λ (i j : ℕ). i ∷ days j b) (sym e) next
 
 from-length : (k a : ℕ) → length (days_from a k) ≡ k
 unfolding days_from
@@ -144,14 +144,14 @@ module _ (p : ℕ → Bool) where
   unfolding filter
   filter-next n l = refl
 
+  -- what passes of a list, by its first item
+  pub filter-first : (n : ℕ) (l rest : List ℕ) → l ≡ n ∷ rest → (t : Bool) → p n ≡ t → filter p l ≡ keep t n (filter p rest)
+  filter-first n l rest e t q = ap (filter p) e ∙ filter-next n rest ∙ ap (λ (u : Bool). keep u n (filter p rest)) q
+
   -- The list of a range: day a is looked at, and then the days after it; and none is left.
   module _ (a b : ℕ) where
     trading-day : a ≤ b → (t : Bool) → p a ≡ t → trading_days p a b ≡ keep t a (trading_days p (a + 1) b)
-    trading-day h t e =
-        let one : suc a ≡ a + 1 = omega arith in
-        ap (filter p) (days-next a b h)
-        ∙ filter-next a (days (suc a) b)
-        ∙ ap₂ (λ (u : Bool) (i : ℕ). keep u a (trading_days p i b)) e one
+    trading-day h = filter-first a (days a b) (days (a + 1) b) (day-first a b a h refl)
 
     pub trading-kept : a ≤ b → p a ≡ true → trading_days p a b ≡ a ∷ trading_days p (a + 1) b
     trading-kept h e = trading-day h true e

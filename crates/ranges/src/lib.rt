@@ -3,87 +3,67 @@
 
 ghost use Rattle.std.specs.Prelude.{◌≡◌, suc, ◌-◌, ◌≤◌, reverse};
 ghost use Rattle.std.specs.Iterator.{YieldsFirstBy, item_count};
-ghost use Rattle.gregorian.specs.Calendar.{last_day, date_of};
+ghost use Rattle.gregorian.specs.Calendar.{last_day};
 ghost use Rattle.ranges.specs.Ranges.{days};
 
-use gregorian::Date;
-use gregorian::days::{CalendarDay, date_after, day_after, day_before};
+use gregorian::days::{CalendarDay, day_after, day_before};
 
-// The days from `number` to `last`, both included.
+// The days from day number `next` to `last`, both included. `day` is the day before `next` or, at first, that day itself: so a step is
+// one compare and `day_after`, and none goes beyond `last`.
 #[derive(Drop)]
 pub struct Days {
-    pub number: u32,
-    pub date: Date,
+    pub day: CalendarDay,
+    pub next: u32,
     pub last: u32,
-    pub ghost low: { 1 ≤ number },
-    pub ghost same: { date ≡ date_of number },
+    pub ghost near: { (day.number ≤ next) × (next ≤ suc day.number) },
     pub ghost high: { last ≤ last_day },
 }
 
 impl Iterator for Days {
     type Item = CalendarDay;
 
-    ghost next_gives = { YieldsFirstBy (λ day. day.number) (λ s. days s.number s.last) };
+    ghost next_gives = { YieldsFirstBy (λ day. day.number) (λ s. days s.next s.last) };
 
-    ghost remaining = { item_count (λ s. days s.number s.last) };
+    ghost remaining = { item_count (λ s. days s.next s.last) };
 
     fn next(&mut self) -> Option<CalendarDay> {
-        if self.last < self.number {
+        if self.last < self.next {
             return None;
         }
-        let day = CalendarDay {
-            number: self.number,
-            date: self.date,
+        let day = if self.day.number < self.next {
+            day_after(self.day)
+        } else {
+            self.day
         };
-        self.number = day.number + 1;
-        self.date = date_after(day.date);
+        self.day = day;
+        self.next = day.number + 1;
         Some(day)
     }
 }
 
 impl Days {
+    // From that day on.
     pub fn new(first: CalendarDay, last: u32) -> Days
         requires { last ≤ last_day }
-        ensures { (result.number ≡ first.number) × (result.last ≡ last) }
+        ensures { (result.next ≡ first.number) × (result.last ≡ last) }
     {
         Days {
-            number: first.number,
-            date: first.date,
+            day: first,
+            next: first.number,
             last,
         }
     }
-}
 
-// The days after `day`, up to `last`.
-#[derive(Drop)]
-pub struct DaysAfter {
-    pub day: CalendarDay,
-    pub last: u32,
-    pub ghost high: { last ≤ last_day },
-}
-
-impl Iterator for DaysAfter {
-    type Item = CalendarDay;
-
-    ghost next_gives = { YieldsFirstBy (λ day. day.number) (λ s. days (suc s.day.number) s.last) };
-
-    ghost remaining = { item_count (λ s. days (suc s.day.number) s.last) };
-
-    fn next(&mut self) -> Option<CalendarDay> {
-        if self.last <= self.day.number {
-            return None;
-        }
-        self.day = day_after(self.day);
-        Some(self.day)
-    }
-}
-
-impl DaysAfter {
-    pub fn new(day: CalendarDay, last: u32) -> DaysAfter
+    // From the day after it on.
+    pub fn after(day: CalendarDay, last: u32) -> Days
         requires { last ≤ last_day }
-        ensures { (result.day ≡ day) × (result.last ≡ last) }
+        ensures { (result.next ≡ suc day.number) × (result.last ≡ last) }
     {
-        DaysAfter { day, last }
+        Days {
+            day,
+            next: day.number + 1,
+            last,
+        }
     }
 }
 

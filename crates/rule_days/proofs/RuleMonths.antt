@@ -98,7 +98,7 @@ unfolding day_number
 same-within day m a k e =
     let d = day.date.day in
     let from = day_number day.date.year m a in
-    let n = sym (number_is _ _ day.low day.same) ∙ ap (λ (i : ℕ). day_number day.date.year i d) e in
+    let n = sym (number_is day) ∙ ap (λ (i : ℕ). day_number day.date.year i d) e in
     let low = one-order a d from day.number (λ l. omega (arith, n, l)) (λ l. omega (arith, n, l)) in
     let high = one-order d (a + k) day.number (from + k) (λ l. omega (arith, n, l)) (λ l. omega (arith, n, l)) in
     λ j. low j && high j
@@ -114,10 +114,10 @@ module _ (day : CalendarDay) where
   month = day.date.month
 
   pub year-range : (1 ≤ y) × (y ≤ last_year)
-  year-range = let d = is-date _ _ _ (is-date-of _ _ day.low day.same day.high) in (d.exists.y-low, d.y-high)
+  year-range = let d = is-date _ _ _ (is-date-of day) in (d.exists.y-low, d.y-high)
 
   pub month-range : (1 ≤ month) × (month ≤ 12)
-  month-range = let d = is-date _ _ _ (is-date-of _ _ day.low day.same day.high) in (d.exists.m-low, d.exists.m-high)
+  month-range = let d = is-date _ _ _ (is-date-of day) in (d.exists.m-low, d.exists.m-high)
 
   ends : (m a b : ℕ) → day_number y m b + a ≡ day_number y m a + b
   unfolding day_number

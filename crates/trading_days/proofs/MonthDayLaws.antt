@@ -11,7 +11,6 @@ use native.Mathlib.Omega.{arith}
 use Rattle.gregorian.specs.declared.Date.{Date}
 use Rattle.gregorian.specs.declared.days.CalendarDay.{CalendarDay}
 use Rattle.gregorian.specs.Calendar.{last_day, leap_day, month_lengths, month_length, is_date, day_number}
-use Rattle.gregorian.specs.Inner.{SameDay}
 use Rattle.gregorian.proofs.Laws.{days-on, is-date, date-by, by_number, number-range}
 use Rattle.gregorian.proofs.Formulas.{month-high}
 use Rattle.markets.specs.Markets.{is_trading_day}
@@ -30,9 +29,9 @@ pub record DayInMonth (y m first : ℕ) (day : CalendarDay) : Type 0 where
   pub day-is : day.date.day ≡ suc (day.number - first)
   pub in-years : day.number ≤ last_day
 
-pub day-in-month : (y m first : ℕ) (day : CalendarDay) → is_date y m 1 ≡ true → SameDay day → first ≡ day_number y m 1 → first ≤ day.number → day.number < first + month_length y m
+pub day-in-month : (y m first : ℕ) (day : CalendarDay) → is_date y m 1 ≡ true → first ≡ day_number y m 1 → first ≤ day.number → day.number < first + month_length y m
     → DayInMonth y m first day
-day-in-month y m first day h s f l u =
+day-in-month y m first day h f l u =
     let g = is-date y m 1 h in
     let x = g.exists in
     let d = suc (day.number - first) in
@@ -41,7 +40,7 @@ day-in-month y m first day h s f l u =
     let n : day.number ≡ day_number y m d = omega (arith, f, days-on y m 1 (day.number - first), ap (day_number y m) one) in
     record {
       number = n;
-      day-is = ap (λ (t : Date). t.day) (s.same ∙ sym (by_number y m d day.number (is-date y m d is).exists (sym n)));
+      day-is = ap (λ (t : Date). t.day) (day.same ∙ sym (by_number y m d day.number (is-date y m d is).exists (sym n)));
       in-years = omega (arith, n, number-range y m d is);
     }
 

@@ -3,29 +3,28 @@
 
 ghost use Rattle.std.specs.Prelude.{◌≡◌, true, ◌≤◌, length, take};
 ghost use Rattle.gregorian.specs.Calendar.{last_day, is_date};
-ghost use Rattle.gregorian.specs.Inner.{SameDay};
 ghost use Rattle.markets.specs.Markets.{is_trading_day};
 ghost use Rattle.ranges.specs.Ranges.{count_trading_days};
 ghost use Rattle.trading_days.specs.Month.{month_list};
 
-use gregorian::days::{CalendarDay, calendar_day, day_after};
+use gregorian::days::{CalendarDay, calendar_day};
 use markets::is_trading_day;
+use ranges::Days;
 
 // How many days a month has at most.
 pub const LONGEST_MONTH: usize = 31;
 
-// [count]: from the first day to the last, both included; 0 if the last is before the first.
+// [count]: from the first day to the last, both included; 0 if the last is before the first. A `for`, as `filter` with `count` took more
+// instructions a day.
 pub fn count(market: u32, first: CalendarDay, last: u32) -> u32
-    requires { SameDay first × (last ≤ last_day) }
+    requires { last ≤ last_day }
     ensures { result ≡ count_trading_days (is_trading_day market) first.number last }
 {
     let mut count = 0;
-    let mut current = first;
-    while current.number <= last {
-        if is_trading_day(market, current) {
+    for day in Days::new(first, last) {
+        if is_trading_day(market, day) {
             count += 1;
         }
-        current = day_after(current);
     }
     count
 }
@@ -37,14 +36,13 @@ pub fn month_days(market: u32, year: u32, month: u32, days: &mut [u8]) -> usize
     ensures { (take result days.new ≡ month_list market year month) × (result ≤ 31) }
 {
     let mut count = 0;
-    let mut day = calendar_day(year, month, 1);
-    let end = day.number + gregorian::days_in_month(year, month);
-    while day.number < end {
+    let first = calendar_day(year, month, 1);
+    let last = first.number + gregorian::days_in_month(year, month) - 1;
+    for day in Days::new(first, last) {
         if is_trading_day(market, day) {
             days[count] = day.date.day as u8;
             count += 1;
         }
-        day = day_after(day);
     }
     count
 }

@@ -12,7 +12,7 @@ use Rattle.rule_days.proofs.fixed_day.Goals as goal
 number-parts : (day : CalendarDay) → (let t = day.date in (day_number t.year t.month t.day ≡ day.number) × (t.day ≤ day.number))
 number-parts day =
     let t = day.date in
-    let e = number_is _ _ day.low day.same in
+    let e = number_is day in
     (e, omega (arith, e, day-low t.year t.month t.day))
 
 pub overflow_sub-result : goal.overflow_sub-result

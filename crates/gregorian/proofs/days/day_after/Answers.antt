@@ -5,9 +5,8 @@ use Rattle.gregorian.proofs.DaySteps.{is-date-of, after_same}
 use Rattle.gregorian.proofs.days.day_after.Goals as goal
 
 pub date_after-requires : goal.date_after-requires
-date_after-requires c = let day = c.args.day in is-date-of _ _ day.low day.same day.high
+date_after-requires c = is-date-of c.args.day
 
 pub invariant_of-result : goal.invariant_of-result
 invariant_of-result c =
-    let day = c.args.day in
-    record { low = omega arith; high = c.requires; same = c.date_after.ensures ∙ after_same _ _ day.low day.same }
+    record { low = omega arith; high = c.requires; same = c.date_after.ensures ∙ after_same c.args.day }

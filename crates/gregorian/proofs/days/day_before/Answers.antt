@@ -7,9 +7,9 @@ use Rattle.gregorian.proofs.days.day_before.Goals as goal
 pub date_before-requires : goal.date_before-requires
 date_before-requires c =
     let day = c.args.day in
-    (is-date-of _ _ day.low day.same day.high, omega (arith, c.requires, number_is _ _ day.low day.same))
+    (is-date-of day, omega (arith, c.requires, number_is day))
 
 pub invariant_of-result : goal.invariant_of-result
 invariant_of-result c =
     let day = c.args.day in
-    record { low = omega arith; high = omega (arith, day.high); same = c.date_before.ensures ∙ before_same _ _ day.low day.same }
+    record { low = omega arith; high = omega (arith, day.high); same = c.date_before.ensures ∙ before_same day }

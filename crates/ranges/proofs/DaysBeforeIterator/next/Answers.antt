@@ -9,13 +9,9 @@ returns-then-self-clause-steps c =
     let none = ap reverse (days-none s.first (s.day.number - 1) (omega (arith, s.low))) in
     (none, none)
 
-pub returns-clause-steps : goal.returns-clause-steps
-returns-clause-steps c =
+pub returns : goal.returns
+returns c =
     let s = c.args.self.now in
-    day-last s.first (s.day.number - 1) _ (omega (arith, s.low)) (omega arith) (omega (arith, c.day_before-self.ensures))
-
-pub returns-clause-goes : goal.returns-clause-goes
-returns-clause-goes c =
-    let s = c.args.self.now in
-    let fewer = ap length (day-last s.first (s.day.number - 1) c.day_before-self.result.number (omega (arith, s.low)) (omega arith) (omega (arith, c.day_before-self.ensures))) in
-    search rules
+    let last = day-last s.first (s.day.number - 1) c.day_before-self.result.number (omega (arith, s.low)) (omega arith) (omega (arith, c.day_before-self.ensures)) in
+    let fewer = ap length last in
+    record { steps = last; goes = search rules }
