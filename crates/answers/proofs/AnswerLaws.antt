@@ -46,7 +46,7 @@ all-counted (Err d) z = absurd (omega (arith, z, error-number d))
 
 -- ---- an order
 
-pub sliced-is : (count per_day remainder : ℕ) → slice_answer (Ok count per_day remainder) ≡ sliced_over count per_day remainder
+pub sliced-is : (count per_day remainder : ℕ) → slice_answer (Ok (record { count = count; per_day = per_day; remainder = remainder })) ≡ sliced_over count per_day remainder
 unfolding slice_answer
 sliced-is count per_day remainder = refl
 

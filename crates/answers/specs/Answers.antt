@@ -49,7 +49,7 @@ count_answer (Err e) = record { error = error_number e; count = error_count e; d
 
 -- The same for an order: without an error, over how many days, the shares of each, and the remainder.
 unfoldable pub slice_answer : Result Slicing CalendarError → SliceAnswer
-slice_answer (Ok count per_day remainder) = record { error = 0; count = count; per_day = per_day; remainder = remainder; date = no_date }
+slice_answer (Ok s) = record { error = 0; count = s.count; per_day = s.per_day; remainder = s.remainder; date = no_date }
 slice_answer (Err e) = record { error = error_number e; count = error_count e; per_day = 0; remainder = 0; date = error_date e }
 
 -- Without an error, a day is found with its date, or none is; an error has its number and the date that error 1 returns. Every other

@@ -14,7 +14,7 @@ ghost use Rattle.utils.specs.Inner.{day_of_nth, NthInYears};
 ghost use Rattle.utils.specs.Easter.{calculate_easter};
 ghost use Rattle.answers.specs.Answers.{optional_date, flag_of, bool_answer};
 
-use error::CalendarError;
+use error::{CalendarError, ErrorFields};
 use gregorian::{Date, NO_DATE};
 use utils::NthWeekday;
 use utils::easter::easter_days;
@@ -34,20 +34,20 @@ const NO_OPTIONAL_DATE: OptionalDate = OptionalDate {
 
 // The date of an nth weekday, asked about a month: a day of that month is not converted.
 #[tactic(auto, unfolding(crate::specs::Answers::optional_date))]
-pub fn nth_weekday_answer(year: u32, month: u32, answer: NthWeekday) -> OptionalDate
+pub fn nth_weekday_answer(year: u32, month: u32, answer: Option<NthWeekday>) -> OptionalDate
     requires { NthInYears year month answer }
     ensures { result ≡ optional_date (day_of_nth year month answer) }
 {
     match answer {
-        NthWeekday::InMonth(day) => OptionalDate {
+        Some(NthWeekday::InMonth(day)) => OptionalDate {
             found: 1,
             date: Date { year, month, day },
         },
-        NthWeekday::DayNumber(n) => OptionalDate {
+        Some(NthWeekday::DayNumber(n)) => OptionalDate {
             found: 1,
             date: gregorian::date_of(n),
         },
-        NthWeekday::None => NO_OPTIONAL_DATE,
+        None => NO_OPTIONAL_DATE,
     }
 }
 
@@ -84,26 +84,27 @@ pub struct BoolAnswer {
 fn flag(yes: bool) -> u32
     ensures { result ≡ flag_of yes }
 {
-    if yes { 1 } else { 0 }
+    u32::from(yes)
 }
 
-#[tactic(auto, unfolding(crate::specs::Answers::bool_answer))]
-pub fn bool_answer(res: Result<bool, CalendarError>) -> BoolAnswer
-    ensures { result ≡ bool_answer res }
-{
-    match res {
-        Ok(yes) => BoolAnswer {
-            error: 0,
-            value: flag(yes),
-            date: NO_DATE,
-        },
-        Err(e) => {
-            let fields = error::fields(e);
-            let date = fields.date;
-            BoolAnswer {
-                error: fields.number,
-                value: 0,
-                date,
+impl From<Result<bool, CalendarError>> for BoolAnswer {
+    ghost from_gives = { λ answer struct. struct ≡ bool_answer answer };
+
+    #[tactic(auto, unfolding(crate::specs::Answers::bool_answer))]
+    fn from(answer: Result<bool, CalendarError>) -> Self {
+        match answer {
+            Ok(yes) => BoolAnswer {
+                error: 0,
+                value: flag(yes),
+                date: NO_DATE,
+            },
+            Err(e) => {
+                let fields = ErrorFields::from(e);
+                BoolAnswer {
+                    error: fields.number,
+                    value: 0,
+                    date: fields.date,
+                }
             }
         }
     }

@@ -9,10 +9,8 @@ use native.Mathlib.Omega.{arith}
 use borrow.Author.Tests.{lt-ltb, le-ltb, ltb-false, leb-true, le-leb, not-false}
 use Rattle.gregorian.specs.declared.Date.{Date}
 use Rattle.gregorian.specs.Calendar.{last_day, is_date, date, day_number, is_date_of, number}
-use Rattle.gregorian.specs.Inner.{SameDay}
 use Rattle.gregorian.proofs.Tests.{and_left, and_right}
 use Rattle.gregorian.proofs.Laws.{number-range, date-by, month-low}
-use Rattle.gregorian.proofs.DaySteps.{same-day}
 use Rattle.markets.specs.Markets.{is_market}
 use Rattle.markets.specs.Years.{min_year, max_year, is_supported}
 use Rattle.markets.proofs.YearLaws.{supported-years}
@@ -35,7 +33,6 @@ pub record CheckedDay (market year month day n : ℕ) : Type 0 where
   pub known : is_market market ≡ true
   pub is-date : is_date year month day ≡ true
   pub number_is : n ≡ day_number year month day
-  pub same : SameDay (record { number = n; date = date year month day }) × (n ≤ last_day)
 
 -- and of a supported year, with a time in range
 pub record SupportedDay (market year month day : ℕ) (time_in_range : Bool) (n : ℕ) : Type 0 where
@@ -59,12 +56,10 @@ module _ (market year month day : ℕ) where
       let past₅ = passed is_err (Ok n) refl (not (is_date year month day)) _ _ refl past₈.1 in
       let d = not-false (is_date year month day) past₅.0 in
       let e : n ≡ day_number year month day = cc in
-      let r = number-range year month day d in
       record {
         known = not-false _ past₈.0;
         is-date = d;
         number_is = e;
-        same = (same-day year month day n d e, omega (arith, e, r));
       }
 
   -- what follows the same checks for a supported day
@@ -128,7 +123,6 @@ pub record CheckedRange (start end : Date) (a b : ℕ) : Type 0 where
   pub numbers : (a ≡ number start) × (b ≡ number end)
   pub start-year : min_year ≤ start.year
   pub end-year : end.year ≤ max_year
-  pub same : SameDay (record { number = a; date = start })
   pub in-years : (a ≤ last_day) × (b ≤ last_day)
 
 module _ (start end : Date) where
@@ -159,7 +153,6 @@ module _ (start end : Date) where
         numbers = (i, k);
         start-year = ltb-false start.year min_year years.0;
         end-year = ltb-false max_year end.year years.1;
-        same = same-day start.year start.month start.day a s i;
         in-years = (omega (arith, i, number-range start.year start.month start.day s), omega (arith, k, number-range end.year end.month end.day e));
       }
 

@@ -3,12 +3,14 @@
 
 ghost use Rattle.std.specs.Prelude.{◌≡◌, ◌<◌, ◌^◌};
 ghost use Rattle.gregorian.specs.Calendar.{is_date_of};
+ghost use Rattle.error.specs.Errors.{result_and_then};
 ghost use Rattle.checks.specs.Checks.{is_time, checked_day, supported_day, is_month, month_error_date, checked_month};
 ghost use Rattle.checks.specs.Checks.{leaves_years, checked_range, checked_room};
 ghost use Rattle.checks.specs.Inner.{check_of};
 
 use error::CalendarError;
-use gregorian::{Date, day_number, is_date};
+use gregorian::days::{CalendarDay, calendar_day};
+use gregorian::{Date, is_date};
 use markets::is_market;
 use markets::years::{MAX_YEAR, MIN_YEAR, is_supported};
 
@@ -23,42 +25,41 @@ pub fn is_time(time: u32) -> bool
     time <= LAST_TIME
 }
 
-// Errors 8 and 5.
+// Errors 8 and 5, or the day.
 #[tactic(auto, unfolding(crate::specs::Checks::checked_day))]
-pub fn checked_day(market: u32, year: u32, month: u32, day: u32) -> Result<u32, CalendarError>
-    ensures { result ≡ checked_day market year month day }
+pub fn checked_day(market: u32, date: Date) -> Result<CalendarDay, CalendarError>
+    ensures { result_and_then result (λ day. Ok day.number) ≡ checked_day market date.year date.month date.day }
 {
     let is_market = is_market(market);
-    let is_date = is_date(year, month, day);
+    let is_date = is_date(date.year, date.month, date.day);
     if !is_market {
         return Err(CalendarError::UnknownMarket);
     }
     if !is_date {
         return Err(CalendarError::InvalidDate);
     }
-    Ok(day_number(year, month, day))
+    Ok(calendar_day(date.year, date.month, date.day))
 }
 
-// Errors 8, 5, 7 and 1. A call that takes no time has none out of range.
+// Errors 8, 5, 7 and 1, or the day. A call that takes no time has none out of range.
 #[tactic(auto, unfolding(crate::specs::Checks::supported_day))]
 pub fn supported_day(
     market: u32,
-    year: u32,
-    month: u32,
-    day: u32,
+    date: Date,
     time_in_range: bool,
-) -> Result<u32, CalendarError>
-    ensures { result ≡ supported_day market year month day time_in_range }
+) -> Result<CalendarDay, CalendarError>
+    ensures { result_and_then result (λ day. Ok day.number)
+        ≡ supported_day market date.year date.month date.day time_in_range }
 {
-    let is_supported = is_supported(year);
-    let n = checked_day(market, year, month, day)?;
+    let is_supported = is_supported(date.year);
+    let day = checked_day(market, date)?;
     if !time_in_range {
         return Err(CalendarError::TimeOutOfRange);
     }
     if !is_supported {
-        return Err(CalendarError::DateOutOfRange(Date { year, month, day }));
+        return Err(CalendarError::DateOutOfRange(date));
     }
-    Ok(n)
+    Ok(day)
 }
 
 #[tactic(auto, unfolding(crate::specs::Checks::is_month))]

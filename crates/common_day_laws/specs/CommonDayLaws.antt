@@ -1,7 +1,7 @@
 -- One claim about the call for a day common to several markets, and the calls for each of them: docs/SCOPE.md [common-day-laws]. It is of
 -- every answer that the contract of the call allows. The answers are the structs that the exported calls return, by the definitions that
 -- their contracts cite. Assumes nothing.
-use Rattle.std.specs.Prelude.{ℕ, suc, ◌^◌, ◌≤◌, ◌<◌, ◌≡◌, true, false, cond, ◌⊎◌, length, Err}
+use Rattle.std.specs.Prelude.{ℕ, suc, ◌^◌, ◌≤◌, ◌<◌, ◌≡◌, true, false, cond, ◌⊎◌, length}
 use Rattle.gregorian.specs.declared.Date.{Date}
 use Rattle.gregorian.specs.Calendar.{no_date, is_date_of, number}
 use Rattle.markets.specs.Markets.{holidays_by_code, is_market, is_trading_day}

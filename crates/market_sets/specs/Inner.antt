@@ -1,5 +1,5 @@
 -- Inner: no exported contract and no claim rests on these. Which of several days the code finds. Assumes nothing.
-use Rattle.std.specs.Prelude.{ℕ, Option, Result, Err}
+use Rattle.std.specs.Prelude.{ℕ, Option, Result}
 use Rattle.gregorian.specs.declared.Date.{Date}
 use Rattle.ranges.specs.Ranges.{days, find}
 use Rattle.error.specs.Errors.{result_and_then}

@@ -1,6 +1,6 @@
 -- Sets of markets, and the days on which all markets of a set trade: docs/SCOPE.md [market-set], [common-day]. A day is its day number.
 -- Assumes nothing.
-use Rattle.std.specs.Prelude.{ℕ, zero, suc, ◌/◌, ◌%◌, ◌^◌, Bool, true, cond, not, ◌&&◌, ◌||◌, ltb, leb, eqb, length, Option, Some, None, Result, Ok, Err}
+use Rattle.std.specs.Prelude.{option_map, ℕ, zero, suc, ◌/◌, ◌%◌, ◌^◌, Bool, true, cond, not, ◌&&◌, ◌||◌, ltb, leb, eqb, length, Option, Result, Ok, Err}
 use Rattle.gregorian.specs.declared.Date.{Date}
 use Rattle.gregorian.specs.Calendar.{date_of}
 use Rattle.markets.specs.Markets.{holidays_by_code, is_trading_day}
@@ -41,5 +41,4 @@ checked_set_range markets start end = cond (not (is_market_set markets)) (Err In
 
 -- a day by its date
 abbrev pub found_on : Option ℕ → Result (Option Date) CalendarError
-found_on (Some n) = Ok (Some (date_of n))
-found_on None = (Ok None)
+found_on day = Ok (option_map date_of day)

@@ -1,11 +1,11 @@
 // Sets of markets, and the days on which all markets of a set trade.
 #![tactic(auto)]
 
-ghost use Rattle.std.specs.Prelude.{◌≡◌, ◌≤◌, ◌<◌};
-ghost use Rattle.gregorian.specs.Calendar.{last_day};
+ghost use Rattle.std.specs.Prelude.{◌≡◌, ◌≤◌, ◌<◌, option_map};
+ghost use Rattle.gregorian.specs.Calendar.{last_day, date_of};
 ghost use Rattle.gregorian.specs.Inner.{SameDay};
 ghost use Rattle.ranges.specs.Ranges.{days, find};
-ghost use Rattle.market_sets.specs.MarketSets.{has_market, is_market_set, is_common_trading_day, found_on};
+ghost use Rattle.market_sets.specs.MarketSets.{has_market, is_market_set, is_common_trading_day};
 ghost use Rattle.market_sets.specs.Inner.{first_common_day_result};
 
 use checks::checked_range;
@@ -39,34 +39,35 @@ fn is_common_trading_day(markets: u8, day: CalendarDay) -> bool
     requires { SameDay day × (day.number ≤ last_day) }
     ensures { result ≡ is_common_trading_day markets day.number }
 {
-    let mut market = 0;
-    while market <= LAST_MARKET {
+    for market in 0..LAST_MARKET + 1 {
         if has_market(markets, market) && !is_trading_day(market, day) {
             return false;
         }
-        market += 1;
     }
     true
 }
 
 // [common-day]: the first such day from the first to the last, both included.
-fn first_common_day(markets: u8, first: CalendarDay, last: u32) -> Result<Option<Date>, CalendarError>
+fn first_common_day(markets: u8, first: CalendarDay, last: u32) -> Option<Date>
     requires { SameDay first × (last ≤ last_day) }
-    ensures { result ≡ found_on (find (is_common_trading_day markets) (days first.number last)) }
+    ensures { result ≡ option_map date_of (find (is_common_trading_day markets) (days first.number last)) }
 {
     let mut day = first;
     while day.number <= last {
         if is_common_trading_day(markets, day) {
-            let date = day.date;
-            return Ok(Some(date));
+            return Some(day.date);
         }
         day = day_after(day);
     }
-    Ok(None)
+    None
 }
 
 // [common-day]: the first such day from the start to the end, or the first of errors 12, 5 and 1 that applies.
-pub fn common_trading_day(markets: u8, start: Date, end: Date) -> Result<Option<Date>, CalendarError>
+pub fn common_trading_day(
+    markets: u8,
+    start: Date,
+    end: Date,
+) -> Result<Option<Date>, CalendarError>
     ensures { result ≡ first_common_day_result markets start end }
 {
     let is_set = is_market_set(markets);
@@ -76,12 +77,8 @@ pub fn common_trading_day(markets: u8, start: Date, end: Date) -> Result<Option<
     if !is_set {
         return Err(CalendarError::InvalidMarketSet);
     }
-    match checked_range(starts, ends, start, end) {
-        Ok(()) => {
-            let first = calendar_day(start.year, start.month, start.day);
-            let last = day_number(end.year, end.month, end.day);
-            first_common_day(markets, first, last)
-        }
-        Err(e) => Err(e),
-    }
+    checked_range(starts, ends, start, end)?;
+    let first = calendar_day(start.year, start.month, start.day);
+    let last = day_number(end.year, end.month, end.day);
+    Ok(first_common_day(markets, first, last))
 }

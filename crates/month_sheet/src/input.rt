@@ -8,6 +8,7 @@ pub const INPUT_LENGTH: usize = 49;
 
 // Reads until the buffer is full or the input ends, and answers how many bytes were read; a read may bring fewer than there are. Where
 // one fails the answer is 0, for no text: what came before the failure is never printed as a sheet.
+// A number and no slice, since `ReadOf` speaks of the whole buffer. std has no call for the loop: `read_exact` refuses a shorter input.
 pub fn read(input: &mut impl Read, buffer: &mut [u8]) -> usize
     ensures { (result ≤ length buffer.new) × (result ≡ length (take result buffer.new)) }
 {

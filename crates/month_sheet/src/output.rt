@@ -11,7 +11,7 @@ use trading_calendar::sheets::tc_month_sheet;
 pub const OUTPUT_LENGTH: usize = 136;
 
 // [sheet-program]: writes what is printed for the text to the start of the buffer, and answers how many bytes that is. With an error the
-// call has written nothing.
+// call has written nothing. A number and no slice, since the clause speaks of the whole buffer, which a slice would still borrow.
 fn of_text(text: &[u8], out: &mut [u8; OUTPUT_LENGTH]) -> usize
     ensures { (result ≡ length (printed text.now))
         × (out.new ≡ overwrite (printed text.now) out.old) }
@@ -30,6 +30,5 @@ pub fn of_input(buffer: &[u8; INPUT_LENGTH], n: usize, out: &mut [u8; OUTPUT_LEN
         → (result ≡ length (printed input)) × (out.new ≡ overwrite (printed input) out.old) }
     ensures prefix_len { (result ≤ length out.new) × (result ≡ length (take result out.new)) }
 {
-    let text: &[u8] = buffer;
-    of_text(&text[..n], out)
+    of_text(&buffer[..n], out)
 }

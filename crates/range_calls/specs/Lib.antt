@@ -1,2 +1,1 @@
 pub mod RangeCalls
-pub mod Inner

@@ -26,7 +26,12 @@ fn write_days(market: u32, year: u32, month: u32, out: &mut [u8]) -> Result<u32,
 
 // [month-list]: how many days were written, or the first of errors 8, 1, 2 and 9 that applies.
 #[tactic(auto, unfolding(crate::specs::RangeCalls::trading_days_in_month_result))]
-pub fn trading_days_in_month(market: u32, year: u32, month: u32, out: &mut [u8]) -> Result<u32, CalendarError>
+pub fn trading_days_in_month(
+    market: u32,
+    year: u32,
+    month: u32,
+    out: &mut [u8],
+) -> Result<u32, CalendarError>
     ensures { (result ≡ trading_days_in_month_result market year month out.old)
         × (out.new ≡ trading_days_in_month_buffer market year month out.old) }
 {
@@ -35,36 +40,18 @@ pub fn trading_days_in_month(market: u32, year: u32, month: u32, out: &mut [u8])
 }
 
 // [count]: how many days trade from the start to the end, or the first of errors 8, 5 and 1 that applies.
-pub fn count_trading_days(
-    market: u32,
-    start_year: u32,
-    start_month: u32,
-    start_day: u32,
-    end_year: u32,
-    end_month: u32,
-    end_day: u32,
-) -> Result<u32, CalendarError>
-    ensures { result ≡ count_trading_days_result market start_year start_month start_day end_year end_month end_day }
+pub fn count_trading_days(market: u32, start: Date, end: Date) -> Result<u32, CalendarError>
+    ensures { result ≡ count_trading_days_result market start.year start.month start.day end.year end.month end.day }
 {
     let is_market = markets::is_market(market);
-    let start = Date {
-        year: start_year,
-        month: start_month,
-        day: start_day,
-    };
-    let end = Date {
-        year: end_year,
-        month: end_month,
-        day: end_day,
-    };
     // The dates are asked about first, for the registers of the count; the order of the errors is that of the tests.
-    let starts = is_date(start_year, start_month, start_day);
-    let ends = is_date(end_year, end_month, end_day);
+    let starts = is_date(start.year, start.month, start.day);
+    let ends = is_date(end.year, end.month, end.day);
     if !is_market {
         return Err(CalendarError::UnknownMarket);
     }
     checked_range(starts, ends, start, end)?;
-    let first = calendar_day(start_year, start_month, start_day);
-    let last = day_number(end_year, end_month, end_day);
+    let first = calendar_day(start.year, start.month, start.day);
+    let last = day_number(end.year, end.month, end.day);
     Ok(trading_days::count(market, first, last))
 }

@@ -3,9 +3,8 @@
 
 pub mod counts;
 
-ghost use Rattle.std.specs.Prelude.{◌≡◌};
-ghost use Rattle.range_calls.specs.RangeCalls.{distance_of, next_trading_day_result, previous_trading_day_result};
-ghost use Rattle.range_calls.specs.Inner.{trading_day_at, result_at};
+ghost use Rattle.std.specs.Prelude.{◌≡◌, option_map};
+ghost use Rattle.range_calls.specs.RangeCalls.{distance_of, trading_day_result, next_trading_day_result, previous_trading_day_result};
 
 use checks::checked_day;
 use error::CalendarError;
@@ -30,42 +29,43 @@ fn distance(n: u32, m: u32) -> u32
     if n < m { m - n } else { n - m }
 }
 
-// The answer to a call on day n of that year.
-fn trading_day(year: u32, n: u32, neighbour: CalendarDay) -> TradingDay
-    ensures { result ≡ trading_day_at year n neighbour }
-{
-    let date = neighbour.date;
-    TradingDay {
-        date,
-        distance: distance(n, neighbour.number),
-        outside: !is_supported(year) | !is_supported(date.year),
-    }
-}
-
-// Error 6 where no day was found.
-fn trading_day_result(year: u32, n: u32, neighbour: Option<CalendarDay>) -> Result<TradingDay, CalendarError>
-    ensures { result ≡ result_at year n neighbour }
+// The answer to a call on a day: its neighbour that trades, or error 6 where none was found.
+#[tactic(auto, unfolding(crate::specs::RangeCalls::trading_day_result, crate::specs::RangeCalls::trading_day))]
+fn trading_day_result(
+    year: u32,
+    n: u32,
+    neighbour: Option<CalendarDay>,
+) -> Result<TradingDay, CalendarError>
+    ensures { result ≡ trading_day_result year n (option_map (λ day. day.number) neighbour) }
 {
     let day = neighbour.ok_or(CalendarError::NoTradingDayFound)?;
-    Ok(trading_day(year, n, day))
+    Ok(TradingDay {
+        date: day.date,
+        distance: distance(n, day.number),
+        outside: !is_supported(year) | !is_supported(day.date.year),
+    })
 }
 
 // [next]
-pub fn next_trading_day(market: u32, year: u32, month: u32, day: u32) -> Result<TradingDay, CalendarError>
-    ensures { result ≡ next_trading_day_result market year month day }
+pub fn next_trading_day(market: u32, date: Date) -> Result<TradingDay, CalendarError>
+    ensures { result ≡ next_trading_day_result market date.year date.month date.day }
 {
-    let number = checked_day(market, year, month, day)?;
-    let date = Date { year, month, day };
-    let from = CalendarDay { number, date };
-    trading_day_result(year, number, neighbours::next_trading_day(market, from))
+    let day = checked_day(market, date)?;
+    trading_day_result(
+        date.year,
+        day.number,
+        neighbours::next_trading_day(market, day),
+    )
 }
 
 // [previous]
-pub fn previous_trading_day(market: u32, year: u32, month: u32, day: u32) -> Result<TradingDay, CalendarError>
-    ensures { result ≡ previous_trading_day_result market year month day }
+pub fn previous_trading_day(market: u32, date: Date) -> Result<TradingDay, CalendarError>
+    ensures { result ≡ previous_trading_day_result market date.year date.month date.day }
 {
-    let number = checked_day(market, year, month, day)?;
-    let date = Date { year, month, day };
-    let from = CalendarDay { number, date };
-    trading_day_result(year, number, neighbours::previous_trading_day(market, from))
+    let day = checked_day(market, date)?;
+    trading_day_result(
+        date.year,
+        day.number,
+        neighbours::previous_trading_day(market, day),
+    )
 }

@@ -1,70 +1,112 @@
-// Rows about hours: the arguments of a call from the numbers of a row, and the fields of each C struct, in order.
-use crate::numbers::{Numbers, push_date};
+// Rows about hours.
+use crate::fields::Fields;
+use crate::numbers::Numbers;
 use answers::records::Hours;
-use answers::trading_hours::{HoursAnswer, SessionAnswer, TimeAnswer};
 use gregorian::Date;
 use schedule::Session;
-use trading_calendar::trading_hours::tc_trading_hours_new;
+use trading_calendar::trading_hours::{
+    tc_is_open, tc_session_contains, tc_session_new, tc_trading_hours_new,
+};
 
-pub fn session(start: u32, end: u32) -> Session {
+pub fn is_open(inputs: &[u32]) -> Option<Numbers> {
+    let &[market, year, month, day, time] = inputs else {
+        return None;
+    };
+    Some(tc_is_open(market, year, month, day, time).fields())
+}
+
+pub fn session_new(inputs: &[u32]) -> Option<Numbers> {
+    let &[start, end] = inputs else { return None };
+    Some(tc_session_new(start, end).fields())
+}
+
+pub fn session_contains(inputs: &[u32]) -> Option<Numbers> {
+    let &[start, end, time] = inputs else {
+        return None;
+    };
+    Some(tc_session_contains(Session { start, end }, time).fields())
+}
+
+fn session(start: u32, end: u32) -> Session {
     Session { start, end }
 }
 
-// The hours record of the first thirteen inputs.
-pub fn record(inputs: Numbers) -> Hours {
-    let v = inputs.values;
-    Hours {
-        date: Date {
-            year: v[0],
-            month: v[1],
-            day: v[2],
-        },
-        has_pre_market: v[3],
-        pre_market: session(v[4], v[5]),
-        regular: session(v[6], v[7]),
-        has_after_hours: v[8],
-        after_hours: session(v[9], v[10]),
-        has_early_close: v[11],
-        early_close: v[12],
-    }
+pub fn trading_hours_new(inputs: &[u32]) -> Option<Numbers> {
+    let &[
+        year,
+        month,
+        day,
+        start,
+        end,
+        has_pre,
+        pre_start,
+        pre_end,
+        has_after,
+        after_start,
+        after_end,
+    ] = inputs
+    else {
+        return None;
+    };
+    let regular = session(start, end);
+    let pre_market = session(pre_start, pre_end);
+    let after_hours = session(after_start, after_end);
+    let hours = tc_trading_hours_new(
+        year,
+        month,
+        day,
+        regular,
+        has_pre,
+        pre_market,
+        has_after,
+        after_hours,
+    );
+    Some(hours.fields())
 }
 
-pub fn trading_hours_new(inputs: Numbers) -> HoursAnswer {
-    let v = inputs.values;
-    tc_trading_hours_new(
-        v[0],
-        v[1],
-        v[2],
-        session(v[3], v[4]),
-        v[5],
-        session(v[6], v[7]),
-        v[8],
-        session(v[9], v[10]),
-    )
+// The hours record of thirteen numbers.
+fn record(inputs: &[u32]) -> Option<Hours> {
+    let &[
+        year,
+        month,
+        day,
+        has_pre_market,
+        pre_start,
+        pre_end,
+        start,
+        end,
+        has_after_hours,
+        after_start,
+        after_end,
+        has_early_close,
+        early_close,
+    ] = inputs
+    else {
+        return None;
+    };
+    Some(Hours {
+        date: Date { year, month, day },
+        has_pre_market,
+        pre_market: session(pre_start, pre_end),
+        regular: session(start, end),
+        has_after_hours,
+        after_hours: session(after_start, after_end),
+        has_early_close,
+        early_close,
+    })
 }
 
-pub fn time_answer(answer: TimeAnswer) -> Numbers {
-    Numbers::new().push(answer.error).push(answer.seconds)
+// The answer about an hours record.
+pub fn of_hours<A: Fields, F: Fn(Hours) -> A>(inputs: &[u32], call: F) -> Option<Numbers>
+    requires { F.IsAlwaysCallable call }
+{
+    Some(call(record(inputs)?).fields())
 }
 
-fn push_session(list: Numbers, session: Session) -> Numbers {
-    list.push(session.start).push(session.end)
-}
-
-pub fn session_answer(answer: SessionAnswer) -> Numbers {
-    let session = answer.session;
-    push_session(Numbers::new().push(answer.error), session)
-}
-
-pub fn hours_answer(answer: HoursAnswer) -> Numbers {
-    let hours = answer.hours;
-    let date = hours.date;
-    let pre_market = hours.pre_market;
-    let regular = hours.regular;
-    let after_hours = hours.after_hours;
-    let list = push_date(Numbers::new().push(answer.error), date).push(hours.has_pre_market);
-    let list = push_session(push_session(list, pre_market), regular);
-    push_session(list.push(hours.has_after_hours), after_hours)
-        .push(hours.has_early_close)
-        .push(hours.early_close)
+// The same for the record and a time after it.
+pub fn at_time<A: Fields, F: Fn(Hours, u32) -> A>(inputs: &[u32], call: F) -> Option<Numbers>
+    requires { F.IsAlwaysCallable call }
+{
+    let (time, hours) = inputs.split_last()?;
+    Some(call(record(hours)?, *time).fields())
 }

@@ -1,250 +1,109 @@
-// A row of a data file, read a byte at a time: a name, inputs, `=` and answers, with a space between each two. Inputs and answers
-// are numbers, and texts in quotes, of which each byte is a number.
-ghost use Rattle.std.specs.Prelude.{◌<◌};
+// A row of a data file, read a byte at a time: a name, inputs, `=` and answers, with a space between each two.
+use crate::items::{Items, Malformed};
+use crate::kind::Kind;
+use crate::numbers::Numbers;
+use arrayvec::ArrayVec;
 
-use crate::name::Name;
-use crate::numbers::{Appended, Numbers, append_digit};
-use crate::{calls, name, numbers};
+// How many bytes a name has at most. A row with a longer one is malformed.
+const LONGEST_NAME: usize = 64;
 
 // The part of the line that the next byte belongs to.
-const START: u8 = 0;
-
-const NAME: u8 = 1;
-
-const INPUTS: u8 = 2;
-
-const EQUALS: u8 = 3;
-
-const ANSWERS: u8 = 4;
-
-const COMMENT: u8 = 5;
-
-const MALFORMED: u8 = 6;
-
-// What the next byte of the inputs or of the answers follows: a space, a digit, a byte in a text, a backslash there, its last quote.
-const SPACE: u8 = 0;
-
-const DIGIT: u8 = 1;
-
-const TEXT: u8 = 2;
-
-const BACKSLASH: u8 = 3;
-
-const QUOTE: u8 = 4;
+#[derive(Clone, Copy, Default, PartialEq, Eq)]
+enum Part {
+    #[default]
+    Start,
+    Name,
+    Inputs,
+    Equals,
+    Answers,
+    Comment,
+    Malformed,
+}
 
 // A line as far as it was read.
-#[derive(Clone, Copy)]
+#[derive(Default, Drop)]
 pub struct Row {
-    part: u8,
-    name: Name,
-    after: u8,
-    // The number that is being read, as far as it was.
-    value: u32,
-    // The numbers before the `=`, once that was read.
+    part: Part,
+    name: ArrayVec<u8, LONGEST_NAME>,
+    inputs: Items,
+    answers: Items,
+}
+
+// What a row stores: the inputs of a call and its answers.
+#[derive(Drop)]
+pub struct Stored {
+    pub kind: Kind,
     pub inputs: Numbers,
-    // The numbers that were read since the name or the `=`: once the row is finished, its answers.
-    pub numbers: Numbers,
+    pub answers: Numbers,
 }
 
 impl Row {
-    pub fn new() -> Self {
-        let name = Name::new();
-        let none = Numbers::new();
-        Self {
-            part: START,
-            name,
-            after: SPACE,
-            value: 0,
-            inputs: none,
-            numbers: none,
-        }
-    }
-
     // Whether no byte of the line was read.
-    pub fn is_empty(self) -> bool {
-        self.part == START
+    pub fn is_empty(&self) -> bool {
+        self.part == Part::Start
     }
 
     // Whether the line is a comment.
-    pub fn is_comment(self) -> bool {
-        self.part == COMMENT
+    pub fn is_comment(&self) -> bool {
+        self.part == Part::Comment
     }
 
-    // The row after one byte more, which is not the line feed.
-    pub fn push(self, byte: u8) -> Self {
-        let part = self.part;
-        match part {
-            START => self.push_first(byte),
-            NAME => self.push_name(byte),
-            INPUTS => self.push_input(byte),
-            EQUALS => self.push_after_equals(byte),
-            ANSWERS => self.push_item(byte),
-            _ => self,
+    // Reads one byte more, which is not the line feed.
+    pub fn push(&mut self, byte: u8) {
+        if self.try_push(byte).is_err() {
+            self.part = Part::Malformed;
         }
     }
 
-    // The row after its line feed.
-    pub fn finish(self) -> Self {
-        if self.part == ANSWERS {
-            self.end_item()
-        } else {
-            self.with_part(MALFORMED)
+    fn try_push(&mut self, byte: u8) -> Result<(), Malformed> {
+        match self.part {
+            Part::Start if byte == b'#' => self.part = Part::Comment,
+            Part::Start | Part::Name => self.push_name(byte)?,
+            Part::Inputs => self.push_input(byte)?,
+            Part::Equals if byte == b' ' => self.part = Part::Answers,
+            Part::Equals => return Err(Malformed),
+            Part::Answers => self.answers.push(byte)?,
+            Part::Comment | Part::Malformed => {}
         }
+        Ok(())
     }
 
-    // The kind of call that the row names, or KINDS where it names none or is malformed.
-    pub fn kind(self) -> usize {
-        let name = self.name;
-        if self.part == MALFORMED {
-            calls::KINDS
-        } else {
-            calls::kind_of(name)
-        }
-    }
-
-    fn with_part(mut self, part: u8) -> Self {
-        self.part = part;
-        self
-    }
-
-    fn push_first(self, byte: u8) -> Self {
-        if byte == b'#' {
-            self.with_part(COMMENT)
-        } else {
-            self.with_part(NAME).push_name(byte)
-        }
-    }
-
-    fn push_name(mut self, byte: u8) -> Self {
+    fn push_name(&mut self, byte: u8) -> Result<(), Malformed> {
         if byte == b' ' {
-            return self.with_part(INPUTS);
+            self.part = Part::Inputs;
+            return Ok(());
         }
-        let name = self.name;
-        if name.length >= name::CAPACITY {
-            return self.with_part(MALFORMED);
-        }
-        let name = name.push(byte);
-        self.name = name;
-        self
+        self.part = Part::Name;
+        self.name.try_push(byte).map_err(|_| Malformed)
     }
 
-    fn push_input(mut self, byte: u8) -> Self {
-        if byte != b'=' {
-            return self.push_item(byte);
+    fn push_input(&mut self, byte: u8) -> Result<(), Malformed> {
+        if byte != b'=' || self.inputs.is_in_text() {
+            return self.inputs.push(byte);
         }
-        if self.after == TEXT {
-            return self.push_item(byte);
+        if !self.inputs.is_after_space() {
+            return Err(Malformed);
         }
-        if self.after != SPACE {
-            return self.with_part(MALFORMED);
-        }
-        let inputs = self.numbers;
-        let none = Numbers::new();
-        self.inputs = inputs;
-        self.numbers = none;
-        self.with_part(EQUALS)
+        self.part = Part::Equals;
+        Ok(())
     }
 
-    fn push_after_equals(self, byte: u8) -> Self {
-        if byte == b' ' {
-            self.with_part(ANSWERS)
-        } else {
-            self.with_part(MALFORMED)
+    // What the row stores, after its line feed.
+    pub fn finish(self) -> Result<Stored, Malformed> {
+        let Row {
+            part,
+            name,
+            inputs,
+            mut answers,
+        } = self;
+        if part != Part::Answers {
+            return Err(Malformed);
         }
-    }
-
-    fn with_after(mut self, after: u8) -> Self {
-        self.after = after;
-        self
-    }
-
-    // A byte of a number or of a text, or the space after it.
-    fn push_item(self, byte: u8) -> Self {
-        let after = self.after;
-        match after {
-            TEXT => self.push_text(byte),
-            BACKSLASH => self.push_escaped(byte),
-            _ => self.push_outside(byte),
-        }
-    }
-
-    fn push_outside(self, byte: u8) -> Self {
-        if byte == b' ' {
-            return self.end_item();
-        }
-        if byte == b'"' {
-            return self.open_text();
-        }
-        if byte < b'0' {
-            return self.with_part(MALFORMED);
-        }
-        if byte > b'9' {
-            return self.with_part(MALFORMED);
-        }
-        self.push_digit(byte - b'0')
-    }
-
-    fn open_text(self) -> Self {
-        if self.after == SPACE {
-            self.with_after(TEXT)
-        } else {
-            self.with_part(MALFORMED)
-        }
-    }
-
-    fn push_text(self, byte: u8) -> Self {
-        match byte {
-            b'"' => self.with_after(QUOTE),
-            b'\\' => self.with_after(BACKSLASH),
-            _ => self.push_value(byte as u32),
-        }
-    }
-
-    // `\n` is a line feed, and there is no other such pair: other bytes are written as numbers.
-    fn push_escaped(self, byte: u8) -> Self {
-        if byte == b'n' {
-            self.with_after(TEXT).push_value(10)
-        } else {
-            self.with_part(MALFORMED)
-        }
-    }
-
-    fn push_digit(mut self, digit: u8) -> Self
-        requires { digit < 10 }
-    {
-        if self.after == QUOTE {
-            return self.with_part(MALFORMED);
-        }
-        let appended = append_digit(self.value, digit);
-        let Appended::Value(value) = appended else {
-            return self.with_part(MALFORMED);
-        };
-        self.after = DIGIT;
-        self.value = value;
-        self
-    }
-
-    // The row after the last byte of a number or of a text.
-    fn end_item(mut self) -> Self {
-        let after = self.after;
-        let value = self.value;
-        self.after = SPACE;
-        self.value = 0;
-        match after {
-            DIGIT => self.push_value(value),
-            QUOTE => self,
-            _ => self.with_part(MALFORMED),
-        }
-    }
-
-    // The row with one number more.
-    fn push_value(mut self, value: u32) -> Self {
-        let numbers = self.numbers;
-        if numbers.count >= numbers::CAPACITY {
-            return self.with_part(MALFORMED);
-        }
-        let numbers = numbers.push(value);
-        self.numbers = numbers;
-        self
+        answers.end()?;
+        Ok(Stored {
+            kind: Kind::of(name.as_slice()).ok_or(Malformed)?,
+            inputs: inputs.numbers,
+            answers: answers.numbers,
+        })
     }
 }

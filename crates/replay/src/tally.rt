@@ -1,48 +1,37 @@
 // How many rows of a file were compared and how many differ, by kind of call.
-use crate::calls::KINDS;
+use crate::kind::Kind;
 
-#[derive(Clone, Copy)]
+#[derive(Clone, Copy, Default)]
+pub struct Counts {
+    pub compared: u64,
+    pub differ: u64,
+}
+
+#[derive(Clone, Copy, Default)]
 pub struct Tally {
     // How many lines were read: the number of the last of them.
     pub line: u64,
     pub not_understood: u64,
-    pub compared: [u64; KINDS],
-    pub differ: [u64; KINDS],
+    // In the order of `Kind::ALL`.
+    pub counts: [Counts; Kind::COUNT],
 }
 
 impl Tally {
-    pub fn new() -> Self {
-        Self {
-            line: 0,
-            not_understood: 0,
-            compared: [0; KINDS],
-            differ: [0; KINDS],
-        }
+    // Counts go up to the largest number, which no file reaches.
+    pub fn count_line(&mut self) {
+        self.line = self.line.saturating_add(1);
     }
 
-    pub fn count_line(mut self) -> Self {
-        self.line = next(self.line);
-        self
-    }
-
-    pub fn count_not_understood(mut self) -> Self {
-        self.not_understood = next(self.not_understood);
-        self
+    pub fn count_not_understood(&mut self) {
+        self.not_understood = self.not_understood.saturating_add(1);
     }
 
     // Counts a row of the kind.
-    pub fn count_row(mut self, kind: usize, is_same: bool) -> Self {
-        if kind < KINDS {
-            self.compared[kind] = next(self.compared[kind]);
-            if !is_same {
-                self.differ[kind] = next(self.differ[kind]);
-            }
+    pub fn count_row(&mut self, kind: Kind, is_same: bool) {
+        let counts = &mut self.counts[kind as usize];
+        counts.compared = counts.compared.saturating_add(1);
+        if !is_same {
+            counts.differ = counts.differ.saturating_add(1);
         }
-        self
     }
-}
-
-// One more, but for the largest number, which no file reaches.
-fn next(count: u64) -> u64 {
-    if count < u64::MAX { count + 1 } else { count }
 }

@@ -1,5 +1,5 @@
 -- `calendar::trading_hours` meets its contract: the day past the checks is that of a date.
-use mathlib.Core.Path.{sym}
+use Rattle.std.proofs.Common.{sym}
 use Rattle.checks.proofs.CheckLaws.{day-checked}
 use Rattle.calendar.proofs.trading_hours.Goals as goal
 

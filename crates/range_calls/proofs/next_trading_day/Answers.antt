@@ -1,11 +1,6 @@
--- `range_calls::next_trading_day` meets its contract: the day past the checks is that of a date, and an error stays.
-use Rattle.std.proofs.Common.{sym}
-use Rattle.checks.proofs.CheckLaws.{day-checked}
+-- `range_calls::next_trading_day` meets its contract: the neighbour of the day past the checks.
 use Rattle.range_calls.proofs.RangeLaws.{neighbour-is}
 use Rattle.range_calls.proofs.next_trading_day.Goals as goal
 
-pub next_trading_day-requires : goal.next_trading_day-requires
-next_trading_day-requires c = (day-checked _ _ _ _ _ (sym c.in_ok-number.ensures)).same
-
 pub returns : goal.returns
-returns c = neighbour-is _ _ _ _ _ _ _ _ c.in_ok-number.ensures c.next_trading_day.ensures c.trading_day_result.ensures
+returns c = neighbour-is _ _ _ _ _ _ _ _ c.in_ok-day.ensures c.next_trading_day.ensures c.trading_day_result.ensures

@@ -13,7 +13,7 @@ pub day_number-last-requires : goal.day_number-last-requires
 day_number-last-requires c = (check-passed _ _ c.in_ok-checked_range.ensures).1.end-date
 
 pub count-requires : goal.count-requires
-count-requires c = (c.calendar_day-first.ensures.0, omega (arith, c.day_number-last.ensures, (check-passed _ _ c.in_ok-checked_range.ensures).1.in-years))
+count-requires c = omega (arith, c.day_number-last.ensures, (check-passed _ _ c.in_ok-checked_range.ensures).1.in-years)
 
 pub returns : goal.returns
 returns c =
@@ -21,4 +21,4 @@ returns c =
     let counted : ℕ → ℕ → ℕ = count_trading_days (is_trading_day c.args.market) in
     simp known
     (past-ok _ _ _ _ (sym (check-passed _ _ c.in_ok-checked_range.ensures).0)
-    (ap Ok (c.count.ensures ∙ ap₂ counted c.calendar_day-first.ensures.1 c.day_number-last.ensures)))
+    (ap Ok (c.count.ensures ∙ ap₂ counted c.calendar_day-first.ensures c.day_number-last.ensures)))
