@@ -2,11 +2,10 @@
 // to 2030. The comparison with the Rust, whose markets answer in every year, and the stored holidays of other years ask it.
 #![tactic(auto)]
 
-ghost use Rattle.std.specs.Prelude.{◌≡◌};
-ghost use Rattle.utils.specs.Inner.{InYears};
+ghost use Rattle.std.specs.Prelude.{◌≡◌, option_map};
 ghost use Rattle.all_years.specs.AllYears.{known_day, day_answer};
 
-use gregorian::days::CalendarDay;
+use gregorian::days::{CalendarDay, calendar_day};
 
 // Where there is no such market or no such date, every field is false.
 #[repr(C)]
@@ -17,16 +16,16 @@ pub struct DayAnswer {
     pub trades: bool,
 }
 
-// The day number, if there are such a market and such a date.
+// The day, if there are such a market and such a date.
 #[tactic(auto, unfolding(crate::specs::AllYears::known_day))]
-fn known_day(market: u32, year: u32, month: u32, day: u32) -> Option<u32>
-    ensures { (result ≡ known_day market year month day) × InYears result }
+fn known_day(market: u32, year: u32, month: u32, day: u32) -> Option<CalendarDay>
+    ensures { option_map (λ known. known.number) result ≡ known_day market year month day }
 {
     if !markets::is_market(market) {
         return None;
     }
     if gregorian::is_date(year, month, day) {
-        Some(gregorian::day_number(year, month, day))
+        Some(calendar_day(year, month, day))
     } else {
         None
     }
@@ -37,15 +36,11 @@ pub fn all_years_day(market: u32, year: u32, month: u32, day: u32) -> DayAnswer
     ensures { result ≡ day_answer market (known_day market year month day) }
 {
     match known_day(market, year, month, day) {
-        Some(n) => {
-            let date = gregorian::date_of(n);
-            let dated = CalendarDay { number: n, date };
-            DayAnswer {
-                known: true,
-                holiday: markets::is_holiday(market, dated),
-                trades: markets::is_trading_day(market, dated),
-            }
-        }
+        Some(day) => DayAnswer {
+            known: true,
+            holiday: markets::is_holiday(market, day),
+            trades: markets::is_trading_day(market, day),
+        },
         None => DayAnswer {
             known: false,
             holiday: false,

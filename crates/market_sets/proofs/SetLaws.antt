@@ -1,7 +1,7 @@
 -- The laws of sets of markets: the tests of every number below one, the members of a set, the days on which all of them trade, the check
 -- and the answer.
 -- Assumes nothing.
-use Rattle.std.proofs.Common.{Option, Some, Ok, Err, is_err, option_map}
+use Rattle.std.proofs.Common.{Ok, Err, is_err}
 use Prim.Native.Nat.{ℕ, zero, suc, ◌+◌, ◌/◌, ◌%◌, ◌^◌, ◌≤◌, ◌<◌}
 use mathlib.Core.Path.{◌≡◌, refl, sym, ap, ◌∙◌}
 use mathlib.Core.Bool.{Bool, true, false, cond, not, ◌&&◌, ◌||◌}
@@ -13,9 +13,6 @@ use native.Mathlib.Nat.{div-eq_of_lt}
 use native.Mathlib.Omega.{arith}
 use borrow.Author.Tests.{le-leb, lt-ltb, ltb-true, eq-eqb, eqb-true, not-true, not-false}
 use Rattle.gregorian.specs.declared.Date.{Date}
-use Rattle.gregorian.specs.declared.days.CalendarDay.{CalendarDay}
-use Rattle.gregorian.specs.Calendar.{date_of}
-use Rattle.gregorian.specs.Inner.{SameDay}
 use Rattle.gregorian.proofs.Tests.{and_left, and_right}
 use Rattle.markets.specs.Markets.{holidays_by_code, is_market, is_trading_day}
 use Rattle.ranges.specs.Ranges.{days_from, sum_of}
@@ -196,9 +193,3 @@ module _ (markets : ℕ) (start end : Date) where
   set-checked a b q =
       let past₁₂ = passed is_err (Ok (a, b)) refl (not (is_market_set markets)) _ _ refl q in
       (not-false (is_market_set markets) past₁₂.0, past₁₂.1)
-
--- ---- the answer
-
--- the date of the day that was found
-pub found-on : (r : Option ℕ) (day : CalendarDay) → SameDay day → r ≡ Some day.number → Some day.date ≡ option_map date_of r
-found-on r day s q = ap Some s.same ∙ ap (option_map date_of) (sym q)

@@ -3,16 +3,16 @@
 
 ghost use Rattle.std.specs.Prelude.{◌≡◌, ◌≤◌, ◌<◌, option_map};
 ghost use Rattle.gregorian.specs.Calendar.{last_day, date_of};
-ghost use Rattle.gregorian.specs.Inner.{SameDay};
 ghost use Rattle.ranges.specs.Ranges.{days, find};
 ghost use Rattle.market_sets.specs.MarketSets.{has_market, is_market_set, is_common_trading_day};
 ghost use Rattle.market_sets.specs.Inner.{first_common_day_result};
 
 use checks::checked_range;
 use error::CalendarError;
-use gregorian::days::{CalendarDay, calendar_day, day_after};
+use gregorian::days::{CalendarDay, calendar_day};
 use gregorian::{Date, day_number, is_date};
 use markets::{LAST_MARKET, is_trading_day};
+use ranges::Days;
 
 // One more than the set of all markets.
 const SETS_END: u8 = 1 << (LAST_MARKET + 1);
@@ -36,7 +36,6 @@ fn has_market(markets: u8, market: u32) -> bool
 
 // [common-day]: whether every market of the set trades on the day. The first that does not decides.
 fn is_common_trading_day(markets: u8, day: CalendarDay) -> bool
-    requires { SameDay day × (day.number ≤ last_day) }
     ensures { result ≡ is_common_trading_day markets day.number }
 {
     for market in 0..LAST_MARKET + 1 {
@@ -48,18 +47,17 @@ fn is_common_trading_day(markets: u8, day: CalendarDay) -> bool
 }
 
 // [common-day]: the first such day from the first to the last, both included.
-fn first_common_day(markets: u8, first: CalendarDay, last: u32) -> Option<Date>
-    requires { SameDay first × (last ≤ last_day) }
-    ensures { result ≡ option_map date_of (find (is_common_trading_day markets) (days first.number last)) }
+fn first_common_day(markets: u8, first: CalendarDay, last: u32) -> Option<CalendarDay>
+    requires { last ≤ last_day }
+    ensures { option_map (λ day. day.number) result ≡ find (is_common_trading_day markets) (days first.number last) }
 {
-    let mut day = first;
-    while day.number <= last {
-        if is_common_trading_day(markets, day) {
-            return Some(day.date);
-        }
-        day = day_after(day);
-    }
-    None
+    Days::new(first, last).find(|day| is_common_trading_day(markets, *day))
+}
+
+fn date_of_found(day: Option<CalendarDay>) -> Option<Date>
+    ensures { result ≡ option_map date_of (option_map (λ day. day.number) day) }
+{
+    Some(day?.date)
 }
 
 // [common-day]: the first such day from the start to the end, or the first of errors 12, 5 and 1 that applies.
@@ -80,5 +78,5 @@ pub fn common_trading_day(
     checked_range(starts, ends, start, end)?;
     let first = calendar_day(start.year, start.month, start.day);
     let last = day_number(end.year, end.month, end.day);
-    Ok(first_common_day(markets, first, last))
+    Ok(date_of_found(first_common_day(markets, first, last)))
 }
