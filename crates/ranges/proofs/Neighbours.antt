@@ -1,14 +1,14 @@
 -- The laws of the next and the previous trading day for the loops: one day of the search.
 -- Assumes nothing.
-use Rattle.std.proofs.Common.{Some, None}
-use Prim.Native.Nat.{ℕ, suc, ◌+◌, ◌-◌, ◌≤◌, ◌<◌}
+use Rattle.std.proofs.Common.{None}
+use Prim.Native.Nat.{ℕ, suc, ◌-◌, ◌≤◌}
 use mathlib.Core.Path.{◌≡◌, ap, ◌∙◌}
-use mathlib.Core.Bool.{Bool, true, false}
-use mathlib.Core.List.{List, ◌∷◌, reverse}
+use mathlib.Core.Bool.{Bool}
+use mathlib.Core.List.{List, reverse}
 use native.Mathlib.Omega.{arith}
-use Rattle.ranges.specs.Ranges.{days, found, find, next_trading_day, previous_trading_day}
-use Rattle.ranges.proofs.Lists.{days-none, days-next, days-last}
-use Rattle.ranges.proofs.Search.{find_none, find_first}
+use Rattle.ranges.specs.Ranges.{find, next_trading_day, previous_trading_day}
+use Rattle.ranges.proofs.Lists.{days-none}
+use Rattle.ranges.proofs.Search.{find_none}
 
 module _ (trades : ℕ → Bool) where
   -- The next one: day m + 1 is looked at, and then the days after it.

@@ -8,10 +8,8 @@ use lib.ListN.{length, take, set, get_or-eq_default}
 use lib.Seq.{length-take-le, take-suc-set, append_snoc}
 use native.Mathlib.Decide.{dec_le}
 use native.Mathlib.Omega.{arith}
-use Rattle.gregorian.specs.declared.Date.{Date}
-use Rattle.gregorian.specs.declared.days.CalendarDay.{CalendarDay}
-use Rattle.gregorian.specs.Calendar.{last_day, leap_day, month_lengths, month_length, is_date, day_number}
-use Rattle.gregorian.proofs.Laws.{days-on, is-date, date-by, by_number, number-range}
+use Rattle.gregorian.specs.Calendar.{leap_day, month_lengths, month_length, is_date, day_number}
+use Rattle.gregorian.proofs.Laws.{days-on, is-date, date-by, number-range}
 use Rattle.gregorian.proofs.Formulas.{month-high}
 use Rattle.markets.specs.Markets.{is_trading_day}
 use Rattle.ranges.specs.Ranges.{days_from, days, filter, Every, trading_days}
@@ -23,26 +21,13 @@ use Rattle.trading_days.specs.Month.{month_list}
 abbrev pub in_month : ℕ → ℕ → ℕ → ℕ → Bool
 in_month market y m day = is_trading_day market (day_number y m day)
 
--- A day of a month, from the day number of its first: which day of the month it is.
-pub record DayInMonth (y m first : ℕ) (day : CalendarDay) : Type 0 where
-  pub number : day.number ≡ day_number y m (suc (day.number - first))
-  pub day-is : day.date.day ≡ suc (day.number - first)
-  pub in-years : day.number ≤ last_day
-
-pub day-in-month : (y m first : ℕ) (day : CalendarDay) → is_date y m 1 ≡ true → first ≡ day_number y m 1 → first ≤ day.number → day.number < first + month_length y m
-    → DayInMonth y m first day
-day-in-month y m first day h f l u =
+-- day d of a month, from the day number of its first
+pub day-of-month : (y m d first : ℕ) → is_date y m 1 ≡ true → first ≡ day_number y m 1 → 1 ≤ d → d ≤ month_length y m → (is_date y m d ≡ true) × (first - 1 + d ≡ day_number y m d)
+day-of-month y m d first h f l u =
     let g = is-date y m 1 h in
     let x = g.exists in
-    let d = suc (day.number - first) in
-    let is = date-by y m d (x.y-low, g.y-high) (x.m-low, x.m-high) (omega arith, omega arith) in
-    let one : 1 + (day.number - first) ≡ d = omega arith in
-    let n : day.number ≡ day_number y m d = omega (arith, f, days-on y m 1 (day.number - first), ap (day_number y m) one) in
-    record {
-      number = n;
-      day-is = ap (λ (t : Date). t.day) (day.same ∙ sym (by_number y m d day.number (is-date y m d is).exists (sym n)));
-      in-years = omega (arith, n, number-range y m d is);
-    }
+    let back : 1 + (d - 1) ≡ d = omega arith in
+    (date-by y m d (x.y-low, g.y-high) (x.m-low, x.m-high) (l, u), omega (arith, f, number-range y m 1 h, days-on y m 1 (d - 1), ap (day_number y m) back))
 
 -- The first k days of the array, and then those from a to b that pass: day a is looked at; and none is left.
 module _ (p : ℕ → Bool) (l : List ℕ) (k a b : ℕ) where

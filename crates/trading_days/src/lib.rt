@@ -7,7 +7,8 @@ ghost use Rattle.markets.specs.Markets.{is_trading_day};
 ghost use Rattle.ranges.specs.Ranges.{count_trading_days};
 ghost use Rattle.trading_days.specs.Month.{month_list};
 
-use gregorian::days::{CalendarDay, calendar_day};
+use gregorian::Date;
+use gregorian::days::CalendarDay;
 use markets::is_trading_day;
 use ranges::Days;
 
@@ -36,11 +37,12 @@ pub fn month_days(market: u32, year: u32, month: u32, days: &mut [u8]) -> usize
     ensures { (take result days.new ≡ month_list market year month) × (result ≤ 31) }
 {
     let mut count = 0;
-    let first = calendar_day(year, month, 1);
-    let last = first.number + gregorian::days_in_month(year, month) - 1;
-    for day in Days::new(first, last) {
-        if is_trading_day(market, day) {
-            days[count] = day.date.day as u8;
+    let before = gregorian::day_number(year, month, 1) - 1;
+    for day in 1..=gregorian::days_in_month(year, month) {
+        let date = Date { year, month, day };
+        let number = before + day;
+        if is_trading_day(market, CalendarDay { number, date }) {
+            days[count] = day as u8;
             count += 1;
         }
     }
