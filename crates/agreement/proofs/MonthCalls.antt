@@ -1,5 +1,6 @@
 -- The month calls of a range: what each reads, and the lists joined.
 -- Assumes nothing.
+use Rattle.std.proofs.Common.{Result}
 use Prim.Native.Nat.{ℕ, zero, suc, ◌+◌, ◌≤◌, ◌<◌}
 use mathlib.Core.Path.{◌≡◌, refl, sym, ap, ap₂, ◌∙◌, subst}
 use mathlib.Core.Bool.{Bool, true, false, cond, ◌&&◌}
@@ -21,7 +22,6 @@ use Rattle.ranges.specs.Ranges.{Every, joined}
 use Rattle.ranges.specs.Agreement.{DateRange, limit_to, Tile, list_of}
 use Rattle.ranges.proofs.Lists.{order, filter_map}
 use Rattle.ranges.proofs.Items.{every-each, every_map, every-trading-day, map_same, filter_same}
-use Rattle.error.specs.declared.CountResult.{CountResult}
 use Rattle.trading_days.specs.Month.{month_list}
 use Rattle.trading_days.proofs.MonthDayLaws.{month-list}
 use Rattle.buffers.proofs.BufferLaws.{overwrite-start}
@@ -31,6 +31,7 @@ use Rattle.range_calls.proofs.MonthLaws.{month-of-years}
 use Rattle.answers.specs.Answers.{count_answer}
 use Rattle.answers.proofs.AnswerLaws.{counted_is, too-small-is}
 use Rattle.agreement.specs.CallsAgree.{Month, month_number, months_from, Writes, Reads, dates_of, limit_to_range}
+use Rattle.error.specs.declared.CalendarError.{CalendarError}
 
 -- ---- the months in order
 
@@ -96,7 +97,7 @@ module _ (market : ℕ) (known : is_market market ≡ true) (y m : ℕ) (year : 
   writes : (buffer : List ℕ) → length bytes ≤ length buffer → Writes market month buffer bytes
   writes buffer fits =
       let ok = month-of-years market y m buffer known year l h ∙ room-enough (length bytes) (length buffer) fits in
-      (ap count_answer ok ∙ counted_is (length bytes), ap (λ (r : CountResult). take (length bytes) (final_buffer r bytes buffer)) ok ∙ overwrite-start bytes buffer)
+      (ap count_answer ok ∙ counted_is (length bytes), ap (λ (r : Result ℕ CalendarError). take (length bytes) (final_buffer r bytes buffer)) ok ∙ overwrite-start bytes buffer)
 
   reads : (buffer : List ℕ) → Reads market month buffer bytes
   reads buffer =

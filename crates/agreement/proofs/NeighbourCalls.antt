@@ -1,5 +1,6 @@
 -- The two traversals of a range by the calls: those of the day numbers, as dates.
 -- Assumes nothing.
+use Rattle.std.proofs.Common.{Option, Some}
 use Prim.Native.Nat.{ℕ, suc, ◌-◌, ◌≤◌}
 use mathlib.Core.Path.{◌≡◌, refl, sym, ap, ap₂, ◌∙◌, subst, subst₂}
 use mathlib.Core.Bool.{Bool, true, false, cond, not, ◌&&◌, ◌||◌}
@@ -9,8 +10,6 @@ use native.Mathlib.Omega.{arith}
 use Rattle.gregorian.specs.declared.Date.{Date}
 use Rattle.gregorian.specs.Calendar.{number, date_of}
 use Rattle.gregorian.proofs.Laws.{number-of-date, date-of-is}
-use Rattle.utils.specs.declared.OptionalDay.{OptionalDay}
-use Rattle.utils.specs.declared.OptionalDay.TheVariants.{Day}
 use Rattle.utils.specs.Inner.{InYears}
 use Rattle.markets.specs.Markets.{is_market, is_trading_day}
 use Rattle.markets.specs.Years.{is_supported, first_day_of, last_day_of}
@@ -30,7 +29,7 @@ use Rattle.agreement.specs.CallsAgree.{mark_of, next_call, previous_call, Neighb
 
 -- a day of years 1 to 9999
 abbrev pub IsDay : ℕ → Type 0
-IsDay n = InYears (Day n)
+IsDay n = InYears (Some n)
 
 -- A traversal of day numbers is one of their dates, and likewise how it ends.
 module _ (C : ℕ → ℕ → Type 0) (D : Date → Date → Type 0) (inside : ℕ → Bool) (h : (n m : ℕ) → IsDay n → C n m → IsDay m × D (date_of n) (date_of m)) where
@@ -61,7 +60,7 @@ mark-is s t = by (is_supported s.year) (is_supported t.year)
 
 module _ (market : ℕ) (known : is_market market ≡ true) (most : ℕ) where
   -- Where the neighbour of day n is day m, the call on the date of n answers the date of m.
-  answered : (neighbour : ℕ → OptionalDay) (n m earlier later : ℕ) → IsDay n → IsDay m → 1 ≤ earlier → neighbour n ≡ Day m → is_trading_day market m ≡ true
+  answered : (neighbour : ℕ → Option ℕ) (n m earlier later : ℕ) → IsDay n → IsDay m → 1 ≤ earlier → neighbour n ≡ Some m → is_trading_day market m ≡ true
       → distance_of n m ≡ later - earlier → mark (date_of n) (date_of m) ≡ mark_of (date_of earlier) (date_of later) → NonTradingBetween (is_trading_day market) most earlier later
       → NeighbourAnswer market most (trading_day_answer (neighbour_result neighbour market (date_of n).year (date_of n).month (date_of n).day)) (date_of m) (date_of earlier) (date_of later)
   unfolding trading_day_result trading_day trading_day_answer

@@ -7,7 +7,6 @@ ghost use Rattle.utils.specs.Inner.{InYears};
 ghost use Rattle.all_years.specs.AllYears.{known_day, day_answer};
 
 use gregorian::days::CalendarDay;
-use utils::OptionalDay;
 
 // Where there is no such market or no such date, every field is false.
 #[repr(C)]
@@ -20,16 +19,16 @@ pub struct DayAnswer {
 
 // The day number, if there are such a market and such a date.
 #[tactic(auto, unfolding(crate::specs::AllYears::known_day))]
-fn known_day(market: u32, year: u32, month: u32, day: u32) -> OptionalDay
+fn known_day(market: u32, year: u32, month: u32, day: u32) -> Option<u32>
     ensures { (result ≡ known_day market year month day) × InYears result }
 {
     if !markets::is_market(market) {
-        return OptionalDay::None;
+        return None;
     }
     if gregorian::is_date(year, month, day) {
-        OptionalDay::Day(gregorian::day_number(year, month, day))
+        Some(gregorian::day_number(year, month, day))
     } else {
-        OptionalDay::None
+        None
     }
 }
 
@@ -38,7 +37,7 @@ pub fn all_years_day(market: u32, year: u32, month: u32, day: u32) -> DayAnswer
     ensures { result ≡ day_answer market (known_day market year month day) }
 {
     match known_day(market, year, month, day) {
-        OptionalDay::Day(n) => {
+        Some(n) => {
             let date = gregorian::date_of(n);
             let dated = CalendarDay { number: n, date };
             DayAnswer {
@@ -47,7 +46,7 @@ pub fn all_years_day(market: u32, year: u32, month: u32, day: u32) -> DayAnswer
                 trades: markets::is_trading_day(market, dated),
             }
         }
-        OptionalDay::None => DayAnswer {
+        None => DayAnswer {
             known: false,
             holiday: false,
             trades: false,

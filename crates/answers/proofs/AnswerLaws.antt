@@ -1,6 +1,7 @@
 -- The answers with a number, of an order and with a day or none, field by field; what one without an error was made from; an order by
 -- what the count call returned; a right answer of the call for a common day.
 -- Assumes nothing.
+use Rattle.std.proofs.Common.{Option, Some, None, Result, Ok, Err}
 use Prim.Native.Nat.{ℕ}
 use mathlib.Core.Path.{◌≡◌, refl, ap}
 use mathlib.Core.List.{List}
@@ -8,21 +9,16 @@ use native.Mathlib.Omega.{arith}
 use borrow.Author.Tests.{eq-eqb, ne_eqb}
 use Rattle.gregorian.specs.declared.Date.{Date}
 use Rattle.gregorian.specs.Calendar.{no_date}
-use Rattle.utils.specs.declared.OptionalDay.{OptionalDay}
-use Rattle.utils.specs.declared.OptionalDay.TheVariants.{Day, None}
 use Rattle.ranges.specs.Ranges.{days, find}
 use Rattle.ranges.proofs.Search.{finds-some}
-use Rattle.error.specs.declared.CountResult.{CountResult}
-use Rattle.error.specs.declared.OptionalDateResult.{OptionalDateResult}
 use Rattle.error.specs.declared.CalendarError.{CalendarError}
 use Rattle.error.specs.declared.CalendarError.TheVariants.{InvalidMarketSet, NoTradingDayInRange, BufferTooSmall}
 use Rattle.error.specs.Errors.{error_fields}
 use Rattle.error.proofs.ErrorLaws.{error-number}
 use Rattle.answers.specs.declared.counts.CountAnswer.{CountAnswer}
-use Rattle.checks.specs.Checks.{RangeResult, try_range}
+use Rattle.error.specs.Errors.{result_and_then}
 use Rattle.market_sets.specs.MarketSets.{is_common_trading_day, checked_set_range, found_on}
 use Rattle.market_sets.specs.Inner.{first_common_day_result}
-use Rattle.orders.specs.declared.SliceResult.{SliceResult}
 use Rattle.orders.specs.Slices.{slice_result, slice_buffer}
 use Rattle.answers.specs.declared.optional_dates.OptionalDateAnswer.{OptionalDateAnswer}
 use Rattle.answers.specs.Answers.{count_answer, slice_answer, optional_date_answer}
@@ -30,40 +26,40 @@ use Rattle.answers.specs.SliceCall.{slice_order_answer, slice_order_buffer}
 use Rattle.answers.specs.CommonDayCall.{CommonDayPast, CommonTradingDay}
 use Rattle.answers.specs.Expected.{counted, too_small, sliced_over, not_sliced, some_date, none_found, not_searched}
 
-pub counted_is : (n : ℕ) → count_answer (CountResult.Ok n) ≡ counted n
+pub counted_is : (n : ℕ) → count_answer (Ok n) ≡ counted n
 unfolding count_answer
 counted_is n = refl
 
-pub too-small-is : (n : ℕ) → count_answer (CountResult.Err (BufferTooSmall n)) ≡ too_small n
+pub too-small-is : (n : ℕ) → count_answer (Err (BufferTooSmall n)) ≡ too_small n
 unfolding count_answer error_fields
 too-small-is n = refl
 
-pub was-counted : (r : CountResult) (n : ℕ) → count_answer r ≡ counted n → r ≡ CountResult.Ok n
+pub was-counted : (r : Result ℕ CalendarError) (n : ℕ) → count_answer r ≡ counted n → r ≡ Ok n
 unfolding count_answer
-was-counted (CountResult.Ok k) n e = ap CountResult.Ok (ap (λ (a : CountAnswer). a.count) e)
-was-counted (CountResult.Err d) n e = absurd (omega (arith, ap (λ (a : CountAnswer). a.error) e, error-number d))
+was-counted (Ok k) n e = ap Ok (ap (λ (a : CountAnswer). a.count) e)
+was-counted (Err d) n e = absurd (omega (arith, ap (λ (a : CountAnswer). a.error) e, error-number d))
 
-pub all-counted : (r : CountResult) → (count_answer r).error ≡ 0 → count_answer r ≡ counted (count_answer r).count
+pub all-counted : (r : Result ℕ CalendarError) → (count_answer r).error ≡ 0 → count_answer r ≡ counted (count_answer r).count
 unfolding count_answer
-all-counted (CountResult.Ok n) z = refl
-all-counted (CountResult.Err d) z = absurd (omega (arith, z, error-number d))
+all-counted (Ok n) z = refl
+all-counted (Err d) z = absurd (omega (arith, z, error-number d))
 
 -- ---- an order
 
-pub sliced-is : (count per_day remainder : ℕ) → slice_answer (SliceResult.Ok count per_day remainder) ≡ sliced_over count per_day remainder
+pub sliced-is : (count per_day remainder : ℕ) → slice_answer (Ok (record { count = count; per_day = per_day; remainder = remainder })) ≡ sliced_over count per_day remainder
 unfolding slice_answer
 sliced-is count per_day remainder = refl
 
-pub no-day-is : slice_answer (SliceResult.Err NoTradingDayInRange) ≡ not_sliced 11 0 no_date
+pub no-day-is : slice_answer (Err NoTradingDayInRange) ≡ not_sliced 11 0 no_date
 unfolding slice_answer error_fields
 no-day-is = refl
 
-pub too-few-entries-is : (n : ℕ) → slice_answer (SliceResult.Err (BufferTooSmall n)) ≡ not_sliced 9 n no_date
+pub too-few-entries-is : (n : ℕ) → slice_answer (Err (BufferTooSmall n)) ≡ not_sliced 9 n no_date
 unfolding slice_answer error_fields
 too-few-entries-is n = refl
 
 -- the number of an error is never 0
-pub is-error : (e : CalendarError) → (slice_answer (SliceResult.Err e)).error ≡ 0 → ⊥
+pub is-error : (e : CalendarError) → (slice_answer (Err e)).error ≡ 0 → ⊥
 unfolding slice_answer
 is-error e z = omega (arith, z, error-number e)
 
@@ -79,30 +75,30 @@ module _ (quantity : ℕ) (counted : CountAnswer) (buffer : List ℕ) where
 
 -- ---- a day or none
 
-pub some-date-is : (t : Date) → optional_date_answer (OptionalDateResult.Found t) ≡ some_date t
+pub some-date-is : (t : Date) → optional_date_answer (Ok (Some t)) ≡ some_date t
 unfolding optional_date_answer
 some-date-is t = refl
 
-pub none-found-is : optional_date_answer OptionalDateResult.None ≡ none_found
+pub none-found-is : optional_date_answer (Ok None) ≡ none_found
 unfolding optional_date_answer
 none-found-is = refl
 
-pub no-set-is : optional_date_answer (OptionalDateResult.Err InvalidMarketSet) ≡ not_searched 12 no_date
+pub no-set-is : optional_date_answer (Err InvalidMarketSet) ≡ not_searched 12 no_date
 unfolding optional_date_answer error_fields
 no-set-is = refl
 
 -- an error of the dates, as the count call returns it
-pub as-counted : (e : CalendarError) → optional_date_answer (OptionalDateResult.Err e) ≡ not_searched (count_answer (CountResult.Err e)).error (count_answer (CountResult.Err e)).date
+pub as-counted : (e : CalendarError) → optional_date_answer (Err e) ≡ not_searched (count_answer (Err e)).error (count_answer (Err e)).date
 unfolding optional_date_answer count_answer
 as-counted e = refl
 
-pub is-search-error : (e : CalendarError) → (optional_date_answer (OptionalDateResult.Err e)).error ≡ 0 → ⊥
+pub is-search-error : (e : CalendarError) → (optional_date_answer (Err e)).error ≡ 0 → ⊥
 unfolding optional_date_answer
 is-search-error e z = omega (arith, z, error-number e)
 
-pub no-search-error : (day : OptionalDay) → (optional_date_answer (found_on day)).error ≡ 0
+pub no-search-error : (day : Option ℕ) → (optional_date_answer (found_on day)).error ≡ 0
 unfolding optional_date_answer
-no-search-error (Day n) = refl
+no-search-error (Some n) = refl
 no-search-error None = refl
 
 -- The first day of the range on which every market of the set trades is a right answer.
@@ -110,7 +106,7 @@ module _ (markets : ℕ) (start end : Date) (r : OptionalDateAnswer) where
   pub first-is-right : r ≡ optional_date_answer (first_common_day_result markets start end) → CommonTradingDay markets start end r
   first-is-right q = by (checked_set_range markets start end) q
     where
-      by : (c : RangeResult) → r ≡ optional_date_answer (try_range c OptionalDateResult.Err (λ a b. found_on (find (is_common_trading_day markets) (days a b))))
+      by : (c : Result (ℕ × ℕ) CalendarError) → r ≡ optional_date_answer (result_and_then c (λ (a, b). found_on (find (is_common_trading_day markets) (days a b))))
           → CommonDayPast markets c r
-      by (RangeResult.Ok a b) p = (find (is_common_trading_day markets) (days a b), finds-some (is_common_trading_day markets) a b, p)
-      by (RangeResult.Err e) p = p
+      by (Ok (a, b)) p = (find (is_common_trading_day markets) (days a b), finds-some (is_common_trading_day markets) a b, p)
+      by (Err e) p = p

@@ -1,14 +1,14 @@
 -- What a has_ field says of its part; and a record that comes back to the host and is handed in again is the one inside.
 -- Assumes nothing.
+use Rattle.std.proofs.Common.{Option, Some, None, unwrap_or}
 use Prim.Native.Nat.{ℕ}
 use mathlib.Core.Path.{◌≡◌, refl}
 use mathlib.Core.Bool.{cond}
 use lib.Dec.{eqb}
 use borrow.Author.Tests.{eq-eqb, ne_eqb}
-use Rattle.schedule.specs.declared.OptionalSession.{OptionalSession}
-use Rattle.schedule.specs.declared.OptionalTime.{OptionalTime}
 use Rattle.schedule.specs.declared.TradingHours.{TradingHours}
-use Rattle.answers.specs.Records.{optional_session, optional_time, trading_hours_of, has_session, session_of, has_time, time_of, hours_of}
+use Rattle.answers.specs.Records.{optional, trading_hours_of, has_part, hours_of}
+use Rattle.schedule.specs.Schedule.{no_session}
 
 module _ {A : Type 0} (has : ℕ) (none some : A) where
   pub absent : has ≡ 0 → none ≡ cond (eqb has 0) none some
@@ -17,23 +17,18 @@ module _ {A : Type 0} (has : ℕ) (none some : A) where
   pub present : (has ≡ 0 → ⊥) → some ≡ cond (eqb has 0) none some
   present n = simp (ne_eqb has 0 n)
 
-same-session : (s : OptionalSession) → optional_session (has_session s) (session_of s) ≡ s
-unfolding optional_session
-same-session (OptionalSession.Some s) = refl
-same-session OptionalSession.None = refl
-
-same-time : (t : OptionalTime) → optional_time (has_time t) (time_of t) ≡ t
-unfolding optional_time
-same-time (OptionalTime.Some t) = refl
-same-time OptionalTime.None = refl
+same-part : {T : Type 0} (o : Option T) (none : T) → optional (has_part o) (unwrap_or o none) ≡ o
+unfolding optional
+same-part (Some part) none = refl
+same-part None none = refl
 
 pub same-hours : (h : TradingHours) → trading_hours_of (hours_of h) ≡ h
 same-hours h =
     λ j.
     record {
       date = h.date;
-      pre_market = same-session h.pre_market j;
+      pre_market = same-part h.pre_market no_session j;
       regular = h.regular;
-      after_hours = same-session h.after_hours j;
-      early_close = same-time h.early_close j;
+      after_hours = same-part h.after_hours no_session j;
+      early_close = same-part h.early_close 0 j;
     }

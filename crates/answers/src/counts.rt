@@ -2,7 +2,7 @@
 ghost use Rattle.std.specs.Prelude.{◌≡◌};
 ghost use Rattle.answers.specs.Answers.{count_answer};
 
-use error::CountResult;
+use error::{CalendarError, ErrorFields};
 use gregorian::{Date, NO_DATE};
 
 // tc_count_result of the header, [host-answers]: error is 0 and count is the answer; or error is a number of [errors], count the
@@ -15,23 +15,24 @@ pub struct CountAnswer {
     pub date: Date,
 }
 
-#[tactic(auto, unfolding(crate::specs::Answers::count_answer))]
-pub fn count_answer(res: CountResult) -> CountAnswer
-    ensures { result ≡ count_answer res }
-{
-    match res {
-        CountResult::Ok(count) => CountAnswer {
-            error: 0,
-            count,
-            date: NO_DATE,
-        },
-        CountResult::Err(e) => {
-            let fields = error::fields(e);
-            let date = fields.date;
-            CountAnswer {
-                error: fields.number,
-                count: fields.count,
-                date,
+impl From<Result<u32, CalendarError>> for CountAnswer {
+    ghost from_gives = { λ answer struct. struct ≡ count_answer answer };
+
+    #[tactic(auto, unfolding(crate::specs::Answers::count_answer))]
+    fn from(answer: Result<u32, CalendarError>) -> Self {
+        match answer {
+            Ok(count) => CountAnswer {
+                error: 0,
+                count,
+                date: NO_DATE,
+            },
+            Err(e) => {
+                let fields = ErrorFields::from(e);
+                CountAnswer {
+                    error: fields.number,
+                    count: fields.count,
+                    date: fields.date,
+                }
             }
         }
     }

@@ -9,13 +9,12 @@ pub mod records;
 pub mod slices;
 pub mod trading_hours;
 
-ghost use Rattle.std.specs.Prelude.{◌≡◌, ◌+◌, ◌-◌, ◌≤◌};
-ghost use Rattle.utils.specs.Weekday.{map_day};
+ghost use Rattle.std.specs.Prelude.{◌≡◌, ◌+◌, ◌-◌, ◌≤◌, option_map};
 ghost use Rattle.utils.specs.Inner.{day_of_nth, NthInYears};
 ghost use Rattle.utils.specs.Easter.{calculate_easter};
 ghost use Rattle.answers.specs.Answers.{optional_date, flag_of, bool_answer};
 
-use error::BoolResult;
+use error::{CalendarError, ErrorFields};
 use gregorian::{Date, NO_DATE};
 use utils::NthWeekday;
 use utils::easter::easter_days;
@@ -35,20 +34,20 @@ const NO_OPTIONAL_DATE: OptionalDate = OptionalDate {
 
 // The date of an nth weekday, asked about a month: a day of that month is not converted.
 #[tactic(auto, unfolding(crate::specs::Answers::optional_date))]
-pub fn nth_weekday_answer(year: u32, month: u32, answer: NthWeekday) -> OptionalDate
+pub fn nth_weekday_answer(year: u32, month: u32, answer: Option<NthWeekday>) -> OptionalDate
     requires { NthInYears year month answer }
     ensures { result ≡ optional_date (day_of_nth year month answer) }
 {
     match answer {
-        NthWeekday::InMonth(day) => OptionalDate {
+        Some(NthWeekday::InMonth(day)) => OptionalDate {
             found: 1,
             date: Date { year, month, day },
         },
-        NthWeekday::DayNumber(n) => OptionalDate {
+        Some(NthWeekday::DayNumber(n)) => OptionalDate {
             found: 1,
             date: gregorian::date_of(n),
         },
-        NthWeekday::None => NO_OPTIONAL_DATE,
+        None => NO_OPTIONAL_DATE,
     }
 }
 
@@ -56,7 +55,7 @@ pub fn nth_weekday_answer(year: u32, month: u32, answer: NthWeekday) -> Optional
 #[tactic(auto, unfolding(crate::specs::Answers::optional_date, utils::specs::Easter::calculate_easter))]
 pub fn easter_answer(year: u32, march_day: u32) -> OptionalDate
     requires { (1 ≤ march_day) × (march_day ≤ 27) }
-    ensures { result ≡ optional_date (map_day (λ n. n + march_day - 22) (calculate_easter year)) }
+    ensures { result ≡ optional_date (option_map (λ n. n + march_day - 22) (calculate_easter year)) }
 {
     if year < 1 {
         return NO_OPTIONAL_DATE;
@@ -85,26 +84,27 @@ pub struct BoolAnswer {
 fn flag(yes: bool) -> u32
     ensures { result ≡ flag_of yes }
 {
-    if yes { 1 } else { 0 }
+    u32::from(yes)
 }
 
-#[tactic(auto, unfolding(crate::specs::Answers::bool_answer))]
-pub fn bool_answer(res: BoolResult) -> BoolAnswer
-    ensures { result ≡ bool_answer res }
-{
-    match res {
-        BoolResult::Ok(yes) => BoolAnswer {
-            error: 0,
-            value: flag(yes),
-            date: NO_DATE,
-        },
-        BoolResult::Err(e) => {
-            let fields = error::fields(e);
-            let date = fields.date;
-            BoolAnswer {
-                error: fields.number,
-                value: 0,
-                date,
+impl From<Result<bool, CalendarError>> for BoolAnswer {
+    ghost from_gives = { λ answer struct. struct ≡ bool_answer answer };
+
+    #[tactic(auto, unfolding(crate::specs::Answers::bool_answer))]
+    fn from(answer: Result<bool, CalendarError>) -> Self {
+        match answer {
+            Ok(yes) => BoolAnswer {
+                error: 0,
+                value: flag(yes),
+                date: NO_DATE,
+            },
+            Err(e) => {
+                let fields = ErrorFields::from(e);
+                BoolAnswer {
+                    error: fields.number,
+                    value: 0,
+                    date: fields.date,
+                }
             }
         }
     }

@@ -3,8 +3,9 @@ ghost use Rattle.std.specs.Prelude.{◌≡◌};
 ghost use Rattle.answers.specs.Answers.{trading_day_answer};
 
 use crate::flag;
+use error::{CalendarError, ErrorFields};
 use gregorian::Date;
-use range_calls::TradingDayResult;
+use range_calls::TradingDay;
 
 // tc_trading_day_result of the header, [host-answers]: error is 0 and the rest is the answer; or error is a number of [errors], and
 // every other field is 0 [reading-nothing] [reading-error-6].
@@ -17,28 +18,26 @@ pub struct TradingDayAnswer {
     pub outside: u32,
 }
 
-#[tactic(auto, unfolding(crate::specs::Answers::trading_day_answer))]
-pub fn trading_day_answer(res: TradingDayResult) -> TradingDayAnswer
-    ensures { result ≡ trading_day_answer res }
-{
-    match res {
-        TradingDayResult::Ok(day) => {
-            let date = day.date;
-            TradingDayAnswer {
+impl From<Result<TradingDay, CalendarError>> for TradingDayAnswer {
+    ghost from_gives = { λ answer struct. struct ≡ trading_day_answer answer };
+
+    #[tactic(auto, unfolding(crate::specs::Answers::trading_day_answer))]
+    fn from(answer: Result<TradingDay, CalendarError>) -> Self {
+        match answer {
+            Ok(day) => TradingDayAnswer {
                 error: 0,
-                date,
+                date: day.date,
                 distance: day.distance,
                 outside: flag(day.outside),
-            }
-        }
-        TradingDayResult::Err(e) => {
-            let fields = error::fields(e);
-            let date = fields.date;
-            TradingDayAnswer {
-                error: fields.number,
-                date,
-                distance: 0,
-                outside: 0,
+            },
+            Err(e) => {
+                let fields = ErrorFields::from(e);
+                TradingDayAnswer {
+                    error: fields.number,
+                    date: fields.date,
+                    distance: 0,
+                    outside: 0,
+                }
             }
         }
     }

@@ -2,7 +2,7 @@
 ghost use Rattle.std.specs.Prelude.{◌≡◌};
 ghost use Rattle.answers.specs.Answers.{optional_date_answer};
 
-use error::OptionalDateResult;
+use error::{CalendarError, ErrorFields};
 use gregorian::{Date, NO_DATE};
 
 // tc_optional_date_result of the header, [host-answers]: error is 0, and found is 1 and date is the answer, or both are 0; or error is a
@@ -15,28 +15,29 @@ pub struct OptionalDateAnswer {
     pub date: Date,
 }
 
-#[tactic(auto, unfolding(crate::specs::Answers::optional_date_answer))]
-pub fn optional_date_answer(res: OptionalDateResult) -> OptionalDateAnswer
-    ensures { result ≡ optional_date_answer res }
-{
-    match res {
-        OptionalDateResult::Found(date) => OptionalDateAnswer {
-            error: 0,
-            found: 1,
-            date,
-        },
-        OptionalDateResult::None => OptionalDateAnswer {
-            error: 0,
-            found: 0,
-            date: NO_DATE,
-        },
-        OptionalDateResult::Err(e) => {
-            let fields = error::fields(e);
-            let date = fields.date;
-            OptionalDateAnswer {
-                error: fields.number,
-                found: 0,
+impl From<Result<Option<Date>, CalendarError>> for OptionalDateAnswer {
+    ghost from_gives = { λ answer struct. struct ≡ optional_date_answer answer };
+
+    #[tactic(auto, unfolding(crate::specs::Answers::optional_date_answer))]
+    fn from(answer: Result<Option<Date>, CalendarError>) -> Self {
+        match answer {
+            Ok(Some(date)) => OptionalDateAnswer {
+                error: 0,
+                found: 1,
                 date,
+            },
+            Ok(None) => OptionalDateAnswer {
+                error: 0,
+                found: 0,
+                date: NO_DATE,
+            },
+            Err(e) => {
+                let fields = ErrorFields::from(e);
+                OptionalDateAnswer {
+                    error: fields.number,
+                    found: 0,
+                    date: fields.date,
+                }
             }
         }
     }

@@ -1,10 +1,9 @@
-// The hours record of the header, tc_hours, and what it is inside: there a part that may be absent is an enum.
+// The hours record of the header, tc_hours, and what it is inside: there a part that may be absent is an `Option`.
 ghost use Rattle.std.specs.Prelude.{◌≡◌};
-ghost use Rattle.answers.specs.Records.{optional_session, optional_time, trading_hours_of};
-ghost use Rattle.answers.specs.Records.{has_session, session_of, has_time, time_of, hours_of};
+ghost use Rattle.answers.specs.Records.{optional, has_part, trading_hours_of, hours_of};
 
 use gregorian::{Date, NO_DATE};
-use schedule::{OptionalSession, OptionalTime, Session, TradingHours};
+use schedule::{Session, TradingHours};
 
 // tc_hours of the header, [host-answers]: a part is absent if its has_ field is 0, whatever its numbers are. In an answer a has_
 // field is 0 or 1, and the numbers of an absent part are 0.
@@ -35,98 +34,50 @@ pub const NO_HOURS: Hours = Hours {
     early_close: 0,
 };
 
-#[tactic(auto, unfolding(crate::specs::Records::optional_session))]
-pub fn optional_session(has: u32, session: Session) -> OptionalSession
-    ensures { result ≡ optional_session has session }
+// A part that the host hands in, by its has_ field.
+#[tactic(auto, unfolding(crate::specs::Records::optional))]
+pub fn optional<T: Drop>(has: u32, part: T) -> Option<T>
+    ensures { result ≡ optional has part }
 {
-    if has == 0 {
-        OptionalSession::None
-    } else {
-        OptionalSession::Some(session)
-    }
+    if has == 0 { None } else { Some(part) }
 }
 
-#[tactic(auto, unfolding(crate::specs::Records::optional_time))]
-fn optional_time(has: u32, time: u32) -> OptionalTime
-    ensures { result ≡ optional_time has time }
+// The has_ field of a part that comes back.
+fn has_part<T>(part: &Option<T>) -> u32
+    ensures { result ≡ has_part part.now }
 {
-    if has == 0 {
-        OptionalTime::None
-    } else {
-        OptionalTime::Some(time)
-    }
+    u32::from(part.is_some())
 }
 
 // What the host hands in.
-pub fn trading_hours_of(hours: Hours) -> TradingHours
-    ensures { result ≡ trading_hours_of hours }
-{
-    let date = hours.date;
-    let pre_market = hours.pre_market;
-    let regular = hours.regular;
-    let after_hours = hours.after_hours;
-    TradingHours {
-        date,
-        pre_market: optional_session(hours.has_pre_market, pre_market),
-        regular,
-        after_hours: optional_session(hours.has_after_hours, after_hours),
-        early_close: optional_time(hours.has_early_close, hours.early_close),
-    }
-}
+impl From<Hours> for TradingHours {
+    ghost from_gives = { λ hours inner. inner ≡ trading_hours_of hours };
 
-fn has_session(session: OptionalSession) -> u32
-    ensures { result ≡ has_session session }
-{
-    match session {
-        OptionalSession::Some(_) => 1,
-        OptionalSession::None => 0,
-    }
-}
-
-fn session_of(session: OptionalSession) -> Session
-    ensures { result ≡ session_of session }
-{
-    match session {
-        OptionalSession::Some(session) => session,
-        OptionalSession::None => NO_SESSION,
-    }
-}
-
-fn has_time(time: OptionalTime) -> u32
-    ensures { result ≡ has_time time }
-{
-    match time {
-        OptionalTime::Some(_) => 1,
-        OptionalTime::None => 0,
-    }
-}
-
-fn time_of(time: OptionalTime) -> u32
-    ensures { result ≡ time_of time }
-{
-    match time {
-        OptionalTime::Some(time) => time,
-        OptionalTime::None => 0,
+    fn from(hours: Hours) -> Self {
+        TradingHours {
+            date: hours.date,
+            pre_market: optional(hours.has_pre_market, hours.pre_market),
+            regular: hours.regular,
+            after_hours: optional(hours.has_after_hours, hours.after_hours),
+            early_close: optional(hours.has_early_close, hours.early_close),
+        }
     }
 }
 
 // What comes back to the host.
-pub fn hours_of(hours: TradingHours) -> Hours
-    ensures { result ≡ hours_of hours }
-{
-    let date = hours.date;
-    let pre_market = hours.pre_market;
-    let regular = hours.regular;
-    let after_hours = hours.after_hours;
-    let early_close = hours.early_close;
-    Hours {
-        date,
-        has_pre_market: has_session(pre_market),
-        pre_market: session_of(pre_market),
-        regular,
-        has_after_hours: has_session(after_hours),
-        after_hours: session_of(after_hours),
-        has_early_close: has_time(early_close),
-        early_close: time_of(early_close),
+impl From<TradingHours> for Hours {
+    ghost from_gives = { λ inner hours. hours ≡ hours_of inner };
+
+    fn from(hours: TradingHours) -> Self {
+        Hours {
+            date: hours.date,
+            has_pre_market: has_part(&hours.pre_market),
+            pre_market: hours.pre_market.unwrap_or(NO_SESSION),
+            regular: hours.regular,
+            has_after_hours: has_part(&hours.after_hours),
+            after_hours: hours.after_hours.unwrap_or(NO_SESSION),
+            has_early_close: has_part(&hours.early_close),
+            early_close: hours.early_close.unwrap_or(0),
+        }
     }
 }

@@ -4,8 +4,9 @@ ghost use Rattle.answers.specs.Answers.{slice_answer};
 ghost use Rattle.answers.specs.SliceCall.{slice_order_answer, slice_order_buffer};
 
 use crate::counts::CountAnswer;
+use error::{CalendarError, ErrorFields};
 use gregorian::{Date, NO_DATE};
-use orders::SliceResult;
+use orders::Slicing;
 
 // tc_slice_result of the header, [host-answers]: error is 0 and the next three are the answer; or error is a number of [errors], count
 // the number of entries that error 9 returns, and date what error 1 returns.
@@ -19,31 +20,28 @@ pub struct SliceAnswer {
     pub date: Date,
 }
 
-#[tactic(auto, unfolding(crate::specs::Answers::slice_answer))]
-fn slice_answer(res: SliceResult) -> SliceAnswer
-    ensures { result ≡ slice_answer res }
-{
-    match res {
-        SliceResult::Ok {
-            count,
-            per_day,
-            remainder,
-        } => SliceAnswer {
-            error: 0,
-            count,
-            per_day,
-            remainder,
-            date: NO_DATE,
-        },
-        SliceResult::Err(e) => {
-            let fields = error::fields(e);
-            let date = fields.date;
-            SliceAnswer {
-                error: fields.number,
-                count: fields.count,
-                per_day: 0,
-                remainder: 0,
-                date,
+impl From<Result<Slicing, CalendarError>> for SliceAnswer {
+    ghost from_gives = { λ answer struct. struct ≡ slice_answer answer };
+
+    #[tactic(auto, unfolding(crate::specs::Answers::slice_answer))]
+    fn from(answer: Result<Slicing, CalendarError>) -> Self {
+        match answer {
+            Ok(slicing) => SliceAnswer {
+                error: 0,
+                count: slicing.count,
+                per_day: slicing.per_day,
+                remainder: slicing.remainder,
+                date: NO_DATE,
+            },
+            Err(e) => {
+                let fields = ErrorFields::from(e);
+                SliceAnswer {
+                    error: fields.number,
+                    count: fields.count,
+                    per_day: 0,
+                    remainder: 0,
+                    date: fields.date,
+                }
             }
         }
     }
@@ -56,14 +54,13 @@ pub fn slice_order_answer(quantity: u32, counted: CountAnswer, out: &mut [u32]) 
         × (out.new ≡ slice_order_buffer quantity counted out.old) }
 {
     if 0 < counted.error {
-        let date = counted.date;
         return SliceAnswer {
             error: counted.error,
             count: counted.count,
             per_day: 0,
             remainder: 0,
-            date,
+            date: counted.date,
         };
     }
-    slice_answer(orders::slice_order(quantity, counted.count, out))
+    SliceAnswer::from(orders::slice_order(quantity, counted.count, out))
 }

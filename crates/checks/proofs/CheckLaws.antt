@@ -1,5 +1,6 @@
 -- The laws of the checks for their callers: what is known past each, where each finds no error, and what follows it.
 -- Assumes nothing.
+use Rattle.std.proofs.Common.{Result, Ok, Err, is_err}
 use Prim.Native.Nat.{ℕ, ◌≤◌, ◌<◌}
 use mathlib.Core.Path.{◌≡◌, refl, sym, ap, ap₂, ◌∙◌}
 use mathlib.Core.Bool.{Bool, true, false, cond, not, ◌||◌}
@@ -15,12 +16,10 @@ use Rattle.gregorian.proofs.DaySteps.{same-day}
 use Rattle.markets.specs.Markets.{is_market}
 use Rattle.markets.specs.Years.{min_year, max_year, is_supported}
 use Rattle.markets.proofs.YearLaws.{supported-years}
-use Rattle.error.specs.declared.CountResult.{CountResult}
 use Rattle.error.specs.declared.CalendarError.{CalendarError}
 use Rattle.error.specs.declared.CalendarError.TheVariants.{TimeOutOfRange, DateOutOfRange, BufferTooSmall}
-use Rattle.checks.specs.declared.DayResult.{DayResult}
-use Rattle.checks.specs.declared.Check.{Check}
-use Rattle.checks.specs.Checks.{RangeResult, checked_day, try_day, supported_day, is_month, checked_month, try_month, leaves_years, checked_range, try_range, checked_room}
+use Rattle.checks.specs.Checks.{checked_day, supported_day, is_month, checked_month, leaves_years, checked_range, checked_room}
+use Rattle.error.specs.Errors.{result_and_then}
 use Rattle.checks.specs.Inner.{check_of}
 
 -- Where a ladder comes to no error, its first test found none, and the rest comes to none.
@@ -30,13 +29,6 @@ module _ {A : Type 0} (failed : A → Bool) (ok : A) (h : failed ok ≡ false) w
   passed false e rest f q = (refl, q)
 
 -- ---- a day of a market
-
-module _ {A : Type 0} (error : CalendarError → A) (rest : ℕ → A) (r : DayResult) where
-  pub past-day : (n : ℕ) (a : A) → DayResult.Ok n ≡ r → a ≡ rest n → a ≡ try_day r error rest
-  past-day n a q e = e ∙ ap (λ (d : DayResult). try_day d error rest) q
-
-  pub past-day-error : (e : CalendarError) → DayResult.Err e ≡ r → error e ≡ try_day r error rest
-  past-day-error e q = ap (λ (d : DayResult). try_day d error rest) q
 
 -- day n of a known market
 pub record CheckedDay (market year month day n : ℕ) : Type 0 where
@@ -52,22 +44,19 @@ pub record SupportedDay (market year month day : ℕ) (time_in_range : Bool) (n 
   pub supported : is_supported year ≡ true
 
 module _ (market year month day : ℕ) where
-  pub day-passes : is_market market ≡ true → is_date year month day ≡ true → checked_day market year month day ≡ DayResult.Ok (day_number year month day)
+  pub day-passes : is_market market ≡ true → is_date year month day ≡ true → checked_day market year month day ≡ Ok (day_number year month day)
   unfolding checked_day
   day-passes k d = simp (k, d)
 
-  pub supported-passes : is_market market ≡ true → is_date year month day ≡ true → is_supported year ≡ true → supported_day market year month day true ≡ DayResult.Ok (day_number year month day)
+  pub supported-passes : is_market market ≡ true → is_date year month day ≡ true → is_supported year ≡ true → supported_day market year month day true ≡ Ok (day_number year month day)
   unfolding supported_day
   supported-passes k d s = simp (day-passes k d, s)
 
-  abbrev failed : DayResult → Bool
-  failed r = try_day r (λ e. true) (λ n. false)
-
-  pub day-checked : (n : ℕ) → checked_day market year month day ≡ DayResult.Ok n → CheckedDay market year month day n
+  pub day-checked : (n : ℕ) → checked_day market year month day ≡ Ok n → CheckedDay market year month day n
   unfolding checked_day
   day-checked n q =
-      let past₈ = passed failed (DayResult.Ok n) refl (not (is_market market)) _ _ refl q in
-      let past₅ = passed failed (DayResult.Ok n) refl (not (is_date year month day)) _ _ refl past₈.1 in
+      let past₈ = passed is_err (Ok n) refl (not (is_market market)) _ _ refl q in
+      let past₅ = passed is_err (Ok n) refl (not (is_date year month day)) _ _ refl past₈.1 in
       let d = not-false (is_date year month day) past₅.0 in
       let e : n ≡ day_number year month day = cc in
       let r = number-range year month day d in
@@ -79,22 +68,22 @@ module _ (market year month day : ℕ) where
       }
 
   -- what follows the same checks for a supported day
-  abbrev past-checked : Bool → ℕ → DayResult
+  abbrev past-checked : Bool → ℕ → Result ℕ CalendarError
   past-checked time_in_range n =
-      cond (not time_in_range) (DayResult.Err TimeOutOfRange)
-      (cond (not (is_supported year)) (DayResult.Err (DateOutOfRange (date year month day)))
-      (DayResult.Ok n))
+      cond (not time_in_range) (Err TimeOutOfRange)
+      (cond (not (is_supported year)) (Err (DateOutOfRange (date year month day)))
+      (Ok n))
 
-  pub supported-checked : (time_in_range : Bool) (n : ℕ) → supported_day market year month day time_in_range ≡ DayResult.Ok n → SupportedDay market year month day time_in_range n
+  pub supported-checked : (time_in_range : Bool) (n : ℕ) → supported_day market year month day time_in_range ≡ Ok n → SupportedDay market year month day time_in_range n
   unfolding supported_day
   supported-checked time_in_range n q = by (checked_day market year month day) refl q
     where
-      by : (r : DayResult) → checked_day market year month day ≡ r → try_day r DayResult.Err (past-checked time_in_range) ≡ DayResult.Ok n → SupportedDay market year month day time_in_range n
-      by (DayResult.Ok k) c p =
-          let past₇ = passed failed (DayResult.Ok n) refl (not time_in_range) _ _ refl p in
-          let past₁ = passed failed (DayResult.Ok n) refl (not (is_supported year)) _ _ refl past₇.1 in
+      by : (r : Result ℕ CalendarError) → checked_day market year month day ≡ r → result_and_then r (past-checked time_in_range) ≡ Ok n → SupportedDay market year month day time_in_range n
+      by (Ok k) c p =
+          let past₇ = passed is_err (Ok n) refl (not time_in_range) _ _ refl p in
+          let past₁ = passed is_err (Ok n) refl (not (is_supported year)) _ _ refl past₇.1 in
           record { checked = day-checked n (c ∙ past₁.1); time = not-false time_in_range past₇.0; supported = not-false (is_supported year) past₁.0 }
-      by (DayResult.Err e) c p = absurd (let z : ◌≡◌ {A = ℕ} 0 1 = cc in omega arith)
+      by (Err e) c p = absurd (let z : ◌≡◌ {A = ℕ} 0 1 = cc in omega arith)
 
 -- ---- a month of a market
 
@@ -107,19 +96,16 @@ pub record CheckedMonth (market year month : ℕ) : Type 0 where
   pub first-date : is_date year month 1 ≡ true
 
 module _ (market year month : ℕ) where
-  pub month-passes : is_market market ≡ true → is_supported year ≡ true → 1 ≤ month → month ≤ 12 → checked_month market year month ≡ Check.Ok
+  pub month-passes : is_market market ≡ true → is_supported year ≡ true → 1 ≤ month → month ≤ 12 → checked_month market year month ≡ Ok tt
   unfolding checked_month is_month
   month-passes k s l u = simp (k, s, le-leb 1 month l, le-leb month 12 u)
 
-  abbrev failed-month : Check → Bool
-  failed-month r = try_month r (λ e. true) false
-
-  pub month-checked : checked_month market year month ≡ Check.Ok → CheckedMonth market year month
+  pub month-checked : checked_month market year month ≡ Ok tt → CheckedMonth market year month
   unfolding checked_month is_month
   month-checked q =
-      let past₈ = passed failed-month Check.Ok refl (not (is_market market)) _ _ refl q in
-      let past₁ = passed failed-month Check.Ok refl (not (is_supported year)) _ _ refl past₈.1 in
-      let past₂ = passed failed-month Check.Ok refl (not (is_month month)) _ _ refl past₁.1 in
+      let past₈ = passed is_err (Ok tt) refl (not (is_market market)) _ _ refl q in
+      let past₁ = passed is_err (Ok tt) refl (not (is_supported year)) _ _ refl past₈.1 in
+      let past₂ = passed is_err (Ok tt) refl (not (is_month month)) _ _ refl past₁.1 in
       let s = not-false _ past₁.0 in
       let m = not-false _ past₂.0 in
       let l = leb-true 1 month (and_left (leb 1 month) _ m) in
@@ -135,13 +121,6 @@ module _ (market year month : ℕ) where
 
 -- ---- a range of dates
 
-module _ {A : Type 0} (error : CalendarError → A) (rest : ℕ → ℕ → A) (r : RangeResult) where
-  pub past-range : (a b : ℕ) (x : A) → RangeResult.Ok a b ≡ r → x ≡ rest a b → x ≡ try_range r error rest
-  past-range a b x q e = e ∙ ap (λ (d : RangeResult). try_range d error rest) q
-
-  pub past-range-error : (e : CalendarError) → RangeResult.Err e ≡ r → error e ≡ try_range r error rest
-  past-range-error e q = ap (λ (d : RangeResult). try_range d error rest) q
-
 -- days a and b of the start and the end
 pub record CheckedRange (start end : Date) (a b : ℕ) : Type 0 where
   pub start-date : is_date_of start ≡ true
@@ -153,29 +132,27 @@ pub record CheckedRange (start end : Date) (a b : ℕ) : Type 0 where
   pub in-years : (a ≤ last_day) × (b ≤ last_day)
 
 module _ (start end : Date) where
-  pub range-passes : is_date_of start ≡ true → is_date_of end ≡ true → min_year ≤ start.year → end.year ≤ max_year → checked_range start end ≡ RangeResult.Ok (number start) (number end)
+  pub range-passes : is_date_of start ≡ true → is_date_of end ≡ true → min_year ≤ start.year → end.year ≤ max_year → checked_range start end ≡ Ok (number start, number end)
   unfolding checked_range leaves_years
   range-passes p q l u = simp (p, q, le-ltb start.year min_year l, le-ltb max_year end.year u)
-
-  abbrev pub failed-range : RangeResult → Bool
-  failed-range r = try_range r (λ e. true) (λ a b. false)
 
   neither : (p q : Bool) → (p || q) ≡ false → (p ≡ false) × (q ≡ false)
   neither true q e = (cc, cc)
   neither false q e = (refl, e)
 
-  pub range-checked : (a b : ℕ) → checked_range start end ≡ RangeResult.Ok a b → CheckedRange start end a b
+  pub range-checked : (a b : ℕ) → checked_range start end ≡ Ok (a, b) → CheckedRange start end a b
   unfolding checked_range leaves_years
   range-checked a b q =
-      let ok = RangeResult.Ok a b in
-      let past₅ = passed failed-range ok refl (not (is_date_of start)) _ _ refl q in
-      let past₅' = passed failed-range ok refl (not (is_date_of end)) _ _ refl past₅.1 in
-      let past₁ = passed failed-range ok refl (leaves_years start.year end.year) _ _ refl past₅'.1 in
+      let ok : Result (ℕ × ℕ) CalendarError = Ok (a, b) in
+      let past₅ = passed is_err ok refl (not (is_date_of start)) _ _ refl q in
+      let past₅' = passed is_err ok refl (not (is_date_of end)) _ _ refl past₅.1 in
+      let past₁ = passed is_err ok refl (leaves_years start.year end.year) _ _ refl past₅'.1 in
       let s = not-false (is_date_of start) past₅.0 in
       let e = not-false (is_date_of end) past₅'.0 in
       let years = neither (ltb start.year min_year) _ past₁.0 in
-      let i : a ≡ number start = cc in
-      let k : b ≡ number end = cc in
+      let numbers : ◌≡◌ {A = ℕ × ℕ} (number start, number end) (a, b) = cc past₁.1 in
+      let i : a ≡ number start = sym (ap (λ (n : ℕ × ℕ). n.0) numbers) in
+      let k : b ≡ number end = sym (ap (λ (n : ℕ × ℕ). n.1) numbers) in
       record {
         start-date = s;
         end-date = e;
@@ -187,40 +164,40 @@ module _ (start end : Date) where
       }
 
   -- by the check without the day numbers: these are the numbers of the dates; or its error
-  pub check-passed : Check.Ok ≡ check_of (checked_range start end)
-      → (checked_range start end ≡ RangeResult.Ok (number start) (number end)) × CheckedRange start end (number start) (number end)
+  pub check-passed : Ok tt ≡ check_of (checked_range start end)
+      → (checked_range start end ≡ Ok (number start, number end)) × CheckedRange start end (number start) (number end)
   check-passed q = by (checked_range start end) refl q
     where
-      by : (c : RangeResult) → checked_range start end ≡ c → Check.Ok ≡ check_of c
-          → (checked_range start end ≡ RangeResult.Ok (number start) (number end)) × CheckedRange start end (number start) (number end)
-      by (RangeResult.Ok a b) e p =
+      by : (c : Result (ℕ × ℕ) CalendarError) → checked_range start end ≡ c → Ok tt ≡ check_of c
+          → (checked_range start end ≡ Ok (number start, number end)) × CheckedRange start end (number start) (number end)
+      by (Ok (a, b)) e p =
           let n = (range-checked a b e).numbers in
-          let ok = e ∙ ap₂ RangeResult.Ok n.0 n.1 in
+          let ok = e ∙ ap₂ (λ (i j : ℕ). Ok (i, j)) n.0 n.1 in
           (ok, range-checked (number start) (number end) ok)
-      by (RangeResult.Err d) e p = absurd (let z : ◌≡◌ {A = ℕ} 0 1 = cc in omega arith)
+      by (Err d) e p = absurd (let z : ◌≡◌ {A = ℕ} 0 1 = cc in omega arith)
 
-  pub check-failed : (e : CalendarError) → Check.Err e ≡ check_of (checked_range start end) → RangeResult.Err e ≡ checked_range start end
+  pub check-failed : (e : CalendarError) → Err e ≡ check_of (checked_range start end) → Err e ≡ checked_range start end
   check-failed e q = by (checked_range start end) q
     where
-      by : (c : RangeResult) → Check.Err e ≡ check_of c → RangeResult.Err e ≡ c
-      by (RangeResult.Ok a b) p = absurd (let z : ◌≡◌ {A = ℕ} 0 1 = cc in omega arith)
-      by (RangeResult.Err d) p = cc
+      by : (c : Result (ℕ × ℕ) CalendarError) → Err e ≡ check_of c → Err e ≡ c
+      by (Ok (a, b)) p = absurd (let z : ◌≡◌ {A = ℕ} 0 1 = cc in omega arith)
+      by (Err d) p = cc
 
 -- ---- a buffer
 
 module _ (needed room : ℕ) where
-  pub room-enough : needed ≤ room → checked_room needed room ≡ CountResult.Ok needed
+  pub room-enough : needed ≤ room → checked_room needed room ≡ Ok needed
   unfolding checked_room
   room-enough h = simp (le-ltb room needed h)
 
-  pub room-short : room < needed → checked_room needed room ≡ CountResult.Err (BufferTooSmall needed)
+  pub room-short : room < needed → checked_room needed room ≡ Err (BufferTooSmall needed)
   unfolding checked_room
   room-short h = simp (lt-ltb room needed h)
 
-  pub room-checked : (n : ℕ) → checked_room needed room ≡ CountResult.Ok n → (n ≡ needed) × (needed ≤ room)
+  pub room-checked : (n : ℕ) → checked_room needed room ≡ Ok n → (n ≡ needed) × (needed ≤ room)
   unfolding checked_room
   room-checked n q = by (ltb room needed) refl q
     where
-      by : (b : Bool) → ltb room needed ≡ b → cond b (CountResult.Err (BufferTooSmall needed)) (CountResult.Ok needed) ≡ CountResult.Ok n → (n ≡ needed) × (needed ≤ room)
+      by : (b : Bool) → ltb room needed ≡ b → cond b (Err (BufferTooSmall needed)) (Ok needed) ≡ Ok n → (n ≡ needed) × (needed ≤ room)
       by true e p = (cc, absurd (let z : ◌≡◌ {A = ℕ} 0 1 = cc in omega arith))
       by false e p = (cc, ltb-false room needed e)

@@ -1,7 +1,7 @@
 -- Inner: no exported contract and no claim rests on these. A check of a range without its day numbers. Assumes nothing.
-use Rattle.checks.specs.Checks.{RangeResult}
-use Rattle.checks.specs.declared.Check.{Check}
+use Rattle.std.specs.Prelude.{Result, Ok, Err, ℕ}
+use Rattle.error.specs.declared.CalendarError.{CalendarError}
 
-abbrev pub check_of : RangeResult → Check
-check_of (RangeResult.Ok start end) = Check.Ok
-check_of (RangeResult.Err e) = Check.Err e
+abbrev pub check_of : Result (ℕ × ℕ) CalendarError → Result (Unit {0}) CalendarError
+check_of (Ok (start, end)) = Ok tt
+check_of (Err e) = Err e

@@ -7,7 +7,7 @@ ghost use Rattle.checks.specs.Checks.{is_time, checked_day, supported_day, is_mo
 ghost use Rattle.checks.specs.Checks.{leaves_years, checked_range, checked_room};
 ghost use Rattle.checks.specs.Inner.{check_of};
 
-use error::{CalendarError, CountResult};
+use error::CalendarError;
 use gregorian::{Date, day_number, is_date};
 use markets::is_market;
 use markets::years::{MAX_YEAR, MIN_YEAR, is_supported};
@@ -23,47 +23,42 @@ pub fn is_time(time: u32) -> bool
     time <= LAST_TIME
 }
 
-// A day number, or the error of a check.
-#[derive(Clone, Copy)]
-pub enum DayResult {
-    Ok(u32),
-    Err(CalendarError),
-}
-
 // Errors 8 and 5.
 #[tactic(auto, unfolding(crate::specs::Checks::checked_day))]
-pub fn checked_day(market: u32, year: u32, month: u32, day: u32) -> DayResult
+pub fn checked_day(market: u32, year: u32, month: u32, day: u32) -> Result<u32, CalendarError>
     ensures { result ≡ checked_day market year month day }
 {
     let is_market = is_market(market);
     let is_date = is_date(year, month, day);
     if !is_market {
-        return DayResult::Err(CalendarError::UnknownMarket);
+        return Err(CalendarError::UnknownMarket);
     }
     if !is_date {
-        return DayResult::Err(CalendarError::InvalidDate);
+        return Err(CalendarError::InvalidDate);
     }
-    DayResult::Ok(day_number(year, month, day))
+    Ok(day_number(year, month, day))
 }
 
 // Errors 8, 5, 7 and 1. A call that takes no time has none out of range.
 #[tactic(auto, unfolding(crate::specs::Checks::supported_day))]
-pub fn supported_day(market: u32, year: u32, month: u32, day: u32, time_in_range: bool) -> DayResult
+pub fn supported_day(
+    market: u32,
+    year: u32,
+    month: u32,
+    day: u32,
+    time_in_range: bool,
+) -> Result<u32, CalendarError>
     ensures { result ≡ supported_day market year month day time_in_range }
 {
     let is_supported = is_supported(year);
-    match checked_day(market, year, month, day) {
-        DayResult::Ok(n) => {
-            if !time_in_range {
-                return DayResult::Err(CalendarError::TimeOutOfRange);
-            }
-            if !is_supported {
-                return DayResult::Err(CalendarError::DateOutOfRange(Date { year, month, day }));
-            }
-            DayResult::Ok(n)
-        }
-        DayResult::Err(e) => DayResult::Err(e),
+    let n = checked_day(market, year, month, day)?;
+    if !time_in_range {
+        return Err(CalendarError::TimeOutOfRange);
     }
+    if !is_supported {
+        return Err(CalendarError::DateOutOfRange(Date { year, month, day }));
+    }
+    Ok(n)
 }
 
 #[tactic(auto, unfolding(crate::specs::Checks::is_month))]
@@ -93,30 +88,23 @@ fn month_error_date(year: u32, month: u32) -> Date
     }
 }
 
-// Past a check, or its error.
-#[derive(Clone, Copy)]
-pub enum Check {
-    Ok,
-    Err(CalendarError),
-}
-
 // Errors 8, 1 and 2.
 #[tactic(auto, unfolding(crate::specs::Checks::checked_month))]
-pub fn checked_month(market: u32, year: u32, month: u32) -> Check
+pub fn checked_month(market: u32, year: u32, month: u32) -> Result<(), CalendarError>
     ensures { result ≡ checked_month market year month }
 {
     let is_supported = is_supported(year);
     let is_month = is_month(month);
     if !is_market(market) {
-        return Check::Err(CalendarError::UnknownMarket);
+        return Err(CalendarError::UnknownMarket);
     }
     if !is_supported {
-        return Check::Err(CalendarError::DateOutOfRange(month_error_date(year, month)));
+        return Err(CalendarError::DateOutOfRange(month_error_date(year, month)));
     }
     if !is_month {
-        return Check::Err(CalendarError::InvalidDateCalculation);
+        return Err(CalendarError::InvalidDateCalculation);
     }
-    Check::Ok
+    Ok(())
 }
 
 // [count]: whether the start is before the supported years, or the end after them.
@@ -130,31 +118,31 @@ fn leaves_years(start_year: u32, end_year: u32) -> bool
 // [count]: errors 5 for the start, 5 for the end, and 1 with the start. A market, or a set of them, is checked before. Whether start and
 // end are dates is handed over, so that this is small enough to be inlined in each call.
 #[tactic(auto, unfolding(crate::specs::Checks::checked_range))]
-pub fn checked_range(starts: bool, ends: bool, start: Date, end: Date) -> Check
+pub fn checked_range(starts: bool, ends: bool, start: Date, end: Date) -> Result<(), CalendarError>
     requires { (starts ≡ is_date_of start) × (ends ≡ is_date_of end) }
     ensures { result ≡ check_of (checked_range start end) }
 {
     let leaves_years = leaves_years(start.year, end.year);
     if !starts {
-        return Check::Err(CalendarError::InvalidDate);
+        return Err(CalendarError::InvalidDate);
     }
     if !ends {
-        return Check::Err(CalendarError::InvalidDate);
+        return Err(CalendarError::InvalidDate);
     }
     if leaves_years {
-        return Check::Err(CalendarError::DateOutOfRange(start));
+        return Err(CalendarError::DateOutOfRange(start));
     }
-    Check::Ok
+    Ok(())
 }
 
 // Error 9, or how many entries are written.
 #[tactic(auto, unfolding(crate::specs::Checks::checked_room))]
-pub fn checked_room(needed: usize, room: usize) -> CountResult
+pub fn checked_room(needed: usize, room: usize) -> Result<u32, CalendarError>
     requires { needed < 2 ^ 32 }
     ensures { result ≡ checked_room needed room }
 {
     if room < needed {
-        return CountResult::Err(CalendarError::BufferTooSmall(needed as u32));
+        return Err(CalendarError::BufferTooSmall(needed as u32));
     }
-    CountResult::Ok(needed as u32)
+    Ok(needed as u32)
 }

@@ -1,5 +1,6 @@
 -- The call for a day common to several markets: what each answer that its contract allows has to be.
 -- Assumes nothing.
+use Rattle.std.proofs.Common.{Option, Some, None, Result, Ok, Err}
 use Prim.Native.Nat.{ℕ, suc, ◌^◌, ◌≤◌, ◌<◌}
 use mathlib.Core.Path.{◌≡◌, refl, sym, ap, ap₂, ◌∙◌, subst}
 use mathlib.Core.Bool.{Bool, true, false}
@@ -8,8 +9,6 @@ use native.Mathlib.Omega.{arith}
 use Rattle.gregorian.specs.declared.Date.{Date}
 use Rattle.gregorian.specs.Calendar.{is_date_of, number, date_of}
 use Rattle.gregorian.proofs.Laws.{is-date, number-of-date, date-of-number, date-of-is}
-use Rattle.utils.specs.declared.OptionalDay.{OptionalDay}
-use Rattle.utils.specs.declared.OptionalDay.TheVariants.{Day, None}
 use Rattle.markets.specs.Markets.{is_market, is_trading_day}
 use Rattle.markets.specs.Years.{is_supported}
 use Rattle.markets.proofs.YearLaws.{years-supported}
@@ -17,11 +16,9 @@ use Rattle.ranges.specs.Ranges.{SomeTradingDay, previous_trading_day, count_trad
 use Rattle.ranges.proofs.Lists.{test, clash}
 use Rattle.ranges.proofs.StepLaws.{last_some}
 use Rattle.ranges.proofs.Counts.{none-counted, one-counted}
-use Rattle.error.specs.declared.BoolResult.{BoolResult}
-use Rattle.error.specs.declared.CountResult.{CountResult}
 use Rattle.error.specs.declared.CalendarError.TheVariants.{InvalidMarketSet}
-use Rattle.error.specs.declared.OptionalDateResult.{OptionalDateResult}
-use Rattle.checks.specs.Checks.{RangeResult, checked_range, try_range}
+use Rattle.checks.specs.Checks.{checked_range}
+use Rattle.error.specs.Errors.{result_and_then}
 use Rattle.checks.proofs.CheckLaws.{CheckedRange, range-checked, supported-passes}
 use Rattle.range_calls.proofs.CountLaws.{count-of-dates}
 use Rattle.market_sets.specs.MarketSets.{is_market_set, is_common_trading_day, checked_set_range, found_on}
@@ -36,26 +33,27 @@ use Rattle.answers.proofs.AnswerLaws.{counted_is, some-date-is, none-found-is, n
 use Rattle.agreement.specs.CallsAgree.{count_call}
 use Rattle.agreement.proofs.Dates.{number-from, number-to, year-from, year-to}
 use Rattle.common_day_laws.specs.CommonDayLaws.{InRange, is_trading_day_call, AllTrade, OneIsClosed, IsCommonDate, IsNone, last_common_day, AllCommonDayLaws}
+use Rattle.error.specs.declared.CalendarError.{CalendarError}
 
 -- ---- the call of one market on a date of the years
 
 module _ (market : ℕ) (t : Date) (known : is_market market ≡ true) (d : is_date_of t ≡ true) (s : is_supported t.year ≡ true) where
-  by-rule : is_trading_day_call market t ≡ bool_answer (BoolResult.Ok (is_trading_day market (number t)))
+  by-rule : is_trading_day_call market t ≡ bool_answer (Ok (is_trading_day market (number t)))
   by-rule = simp (supported-passes market t.year t.month t.day known d s)
 
   says-yes : is_trading_day market (number t) ≡ true → is_trading_day_call market t ≡ is_yes
   unfolding bool_answer flag_of
-  says-yes e = by-rule ∙ ap (λ (b : Bool). bool_answer (BoolResult.Ok b)) e
+  says-yes e = by-rule ∙ ap (λ (b : Bool). bool_answer (Ok b)) e
 
   says-no : is_trading_day market (number t) ≡ false → is_trading_day_call market t ≡ is_no
   unfolding bool_answer flag_of
-  says-no e = by-rule ∙ ap (λ (b : Bool). bool_answer (BoolResult.Ok b)) e
+  says-no e = by-rule ∙ ap (λ (b : Bool). bool_answer (Ok b)) e
 
   said-yes : is_trading_day_call market t ≡ is_yes → is_trading_day market (number t) ≡ true
   unfolding bool_answer flag_of
   said-yes e = by (is_trading_day market (number t)) (ap (λ (a : BoolAnswer). a.value) (sym by-rule ∙ e))
     where
-      by : (b : Bool) → (bool_answer (BoolResult.Ok b)).value ≡ 1 → b ≡ true
+      by : (b : Bool) → (bool_answer (Ok b)).value ≡ 1 → b ≡ true
       by true q = refl
       by false q = absurd (omega (arith, q))
 
@@ -67,8 +65,8 @@ pub record Searched (markets : ℕ) (start end : Date) (r : OptionalDateAnswer) 
   pub b : ℕ
   pub set : is_market_set markets ≡ true
   pub range : CheckedRange start end a b
-  pub is-range : checked_set_range markets start end ≡ RangeResult.Ok a b
-  pub day : OptionalDay
+  pub is-range : checked_set_range markets start end ≡ Ok (a, b)
+  pub day : Option ℕ
   pub some : SomeTradingDay (is_common_trading_day markets) a b day
   pub answer : r ≡ optional_date_answer (found_on day)
 
@@ -111,7 +109,7 @@ module _ (markets : ℕ) (start end : Date) (r : OptionalDateAnswer) (s : Search
 
   -- ---- the answer by its day
 
-  common-date : (n : ℕ) → SomeTradingDay (is_common_trading_day markets) s.a s.b (Day n) → r ≡ some_date (date_of n) → IsCommonDate markets start end r
+  common-date : (n : ℕ) → SomeTradingDay (is_common_trading_day markets) s.a s.b (Some n) → r ≡ some_date (date_of n) → IsCommonDate markets start end r
   common-date n (l, h, e) q =
       let i = day-in-range n l h in
       let same = number-of-date n (omega (arith, s.range.same.low)) in
@@ -120,9 +118,9 @@ module _ (markets : ℕ) (start end : Date) (r : OptionalDateAnswer) (s : Search
   is-answered : IsCommonDate markets start end r ⊎ IsNone markets start end r
   is-answered = by s.day s.some s.answer
     where
-      by : (day : OptionalDay) → SomeTradingDay (is_common_trading_day markets) s.a s.b day → r ≡ optional_date_answer (found_on day)
+      by : (day : Option ℕ) → SomeTradingDay (is_common_trading_day markets) s.a s.b day → r ≡ optional_date_answer (found_on day)
           → IsCommonDate markets start end r ⊎ IsNone markets start end r
-      by (Day n) d q = inl (common-date n d (q ∙ some-date-is (date_of n)))
+      by (Some n) d q = inl (common-date n d (q ∙ some-date-is (date_of n)))
       by None d q = inr (q ∙ none-found-is, λ t i. let n = as-day t i in one-is-closed t i (d (number t) n.0 n.1))
 
   -- no day is common
@@ -132,15 +130,15 @@ module _ (markets : ℕ) (start end : Date) (r : OptionalDateAnswer) (s : Search
   is_none : NoDay → r ≡ none_found
   is_none h = by s.day s.some s.answer
     where
-      by : (day : OptionalDay) → SomeTradingDay (is_common_trading_day markets) s.a s.b day → r ≡ optional_date_answer (found_on day) → r ≡ none_found
-      by (Day n) (l, u, e) q = absurd (clash (is_common_trading_day markets n) e (h n l u))
+      by : (day : Option ℕ) → SomeTradingDay (is_common_trading_day markets) s.a s.b day → r ≡ optional_date_answer (found_on day) → r ≡ none_found
+      by (Some n) (l, u, e) q = absurd (clash (is_common_trading_day markets n) e (h n l u))
       by None d q = q ∙ none-found-is
 
   is_found : (NoDay → ⊥) → r.found ≡ 1
   is_found h = by s.day s.some s.answer
     where
-      by : (day : OptionalDay) → SomeTradingDay (is_common_trading_day markets) s.a s.b day → r ≡ optional_date_answer (found_on day) → r.found ≡ 1
-      by (Day n) d q = ap (λ (x : OptionalDateAnswer). x.found) (q ∙ some-date-is (date_of n))
+      by : (day : Option ℕ) → SomeTradingDay (is_common_trading_day markets) s.a s.b day → r ≡ optional_date_answer (found_on day) → r.found ≡ 1
+      by (Some n) d q = ap (λ (x : OptionalDateAnswer). x.found) (q ∙ some-date-is (date_of n))
       by None d q = absurd (h d)
 
   reversed : number end < number start → r ≡ none_found
@@ -150,8 +148,8 @@ module _ (markets : ℕ) (start end : Date) (r : OptionalDateAnswer) (s : Search
   any-date t i h =
       let d = as-day t i in
       let same = date-of-number t (is-date t.year t.month t.day i.is-date).exists in
-      subst (λ (c : RangeResult). CommonDayPast markets c (some_date t)) (sym s.is-range)
-      (Day (number t), (d.0, d.1, common t i h), sym (some-date-is t) ∙ ap (λ (u : Date). optional_date_answer (OptionalDateResult.Found u)) (sym same))
+      subst (λ (c : Result (ℕ × ℕ) CalendarError). CommonDayPast markets c (some_date t)) (sym s.is-range)
+      (Some (number t), (d.0, d.1, common t i h), sym (some-date-is t) ∙ ap (λ (u : Date). optional_date_answer (Ok (Some u))) (sym same))
 
   -- ---- of one market
 
@@ -185,20 +183,20 @@ module _ (markets : ℕ) (start end : Date) (r : OptionalDateAnswer) (w : Common
   searched : r.error ≡ 0 → Searched markets start end r
   searched z = by (checked_set_range markets start end) refl w
     where
-      by : (c : RangeResult) → checked_set_range markets start end ≡ c → CommonDayPast markets c r → Searched markets start end r
-      by (RangeResult.Ok a b) q (day, some, p) =
+      by : (c : Result (ℕ × ℕ) CalendarError) → checked_set_range markets start end ≡ c → CommonDayPast markets c r → Searched markets start end r
+      by (Ok (a, b)) q (day, some, p) =
           let s = set-checked markets start end a b q in
           record { a = a; b = b; set = s.0; range = range-checked start end a b s.1; is-range = q; day = day; some = some; answer = p }
-      by (RangeResult.Err e) q p = absurd (is-search-error e (ap (λ (x : OptionalDateAnswer). x.error) (sym p) ∙ z))
+      by (Err e) q p = absurd (is-search-error e (ap (λ (x : OptionalDateAnswer). x.error) (sym p) ∙ z))
 
   -- what the contract says where the checks came to c
-  past : (c : RangeResult) → checked_set_range markets start end ≡ c → CommonDayPast markets c r
-  past c q = subst (λ (d : RangeResult). CommonDayPast markets d r) q w
+  past : (c : Result (ℕ × ℕ) CalendarError) → checked_set_range markets start end ≡ c → CommonDayPast markets c r
+  past c q = subst (λ (d : Result (ℕ × ℕ) CalendarError). CommonDayPast markets d r) q w
 
   -- the dates as the count call checks them
   module _ (market : ℕ) (set : is_market_set markets ≡ true) (known : is_market market ≡ true) where
-    abbrev counts : RangeResult → CountAnswer
-    counts c = count_answer (try_range c CountResult.Err (λ a b. CountResult.Ok (count_trading_days (is_trading_day market) a b)))
+    abbrev counts : Result (ℕ × ℕ) CalendarError → CountAnswer
+    counts c = count_answer (result_and_then c (λ (a, b). Ok (count_trading_days (is_trading_day market) a b)))
 
     by-dates : count_call market start end ≡ counts (checked_range start end)
     by-dates = simp known
@@ -206,21 +204,21 @@ module _ (markets : ℕ) (start end : Date) (r : OptionalDateAnswer) (w : Common
     date-error : ((count_call market start end).error ≡ 0 → ⊥) → r ≡ not_searched (count_call market start end).error (count_call market start end).date
     date-error n = by (checked_range start end) refl
       where
-        by : (c : RangeResult) → checked_range start end ≡ c → r ≡ not_searched (count_call market start end).error (count_call market start end).date
-        by (RangeResult.Ok a b) q = absurd (n (ap (λ (x : CountAnswer). x.error) (by-dates ∙ ap counts q ∙ counted_is _)))
-        by (RangeResult.Err e) q =
-            past (RangeResult.Err e) (set-passes markets start end set ∙ q)
+        by : (c : Result (ℕ × ℕ) CalendarError) → checked_range start end ≡ c → r ≡ not_searched (count_call market start end).error (count_call market start end).date
+        by (Ok (a, b)) q = absurd (n (ap (λ (x : CountAnswer). x.error) (by-dates ∙ ap counts q ∙ counted_is _)))
+        by (Err e) q =
+            past (Err e) (set-passes markets start end set ∙ q)
             ∙ as-counted e
             ∙ ap (λ (x : CountAnswer). not_searched x.error x.date) (sym (by-dates ∙ ap counts q))
 
     no-error : (count_call market start end).error ≡ 0 → r.error ≡ 0
     no-error z = by (checked_range start end) refl
       where
-        by : (c : RangeResult) → checked_range start end ≡ c → r.error ≡ 0
-        by (RangeResult.Ok a b) q =
-            let p = past (RangeResult.Ok a b) (set-passes markets start end set ∙ q) in
+        by : (c : Result (ℕ × ℕ) CalendarError) → checked_range start end ≡ c → r.error ≡ 0
+        by (Ok (a, b)) q =
+            let p = past (Ok (a, b)) (set-passes markets start end set ∙ q) in
             ap (λ (x : OptionalDateAnswer). x.error) p.2 ∙ no-search-error p.0
-        by (RangeResult.Err e) q =
+        by (Err e) q =
             absurd (is-search-error e (ap (λ (x : OptionalDateAnswer). x.error) (as-counted e) ∙ ap (λ (x : CountAnswer). x.error) (sym (by-dates ∙ ap counts q)) ∙ z))
 
   -- of one market
@@ -241,26 +239,26 @@ only-the-date : (markets : ℕ) (start end : Date) (r s : OptionalDateAnswer) �
     → (r ≡ s) ⊎ ((t u : Date) × (r ≡ some_date t) × (s ≡ some_date u))
 only-the-date markets start end r s w v = by (checked_set_range markets start end) w v
   where
-    of-days : (a b : ℕ) (d e : OptionalDay) → SomeTradingDay (is_common_trading_day markets) a b d → SomeTradingDay (is_common_trading_day markets) a b e → r ≡ optional_date_answer (found_on d) → s ≡ optional_date_answer (found_on e)
+    of-days : (a b : ℕ) (d e : Option ℕ) → SomeTradingDay (is_common_trading_day markets) a b d → SomeTradingDay (is_common_trading_day markets) a b e → r ≡ optional_date_answer (found_on d) → s ≡ optional_date_answer (found_on e)
         → (r ≡ s) ⊎ ((t u : Date) × (r ≡ some_date t) × (s ≡ some_date u))
-    of-days a b (Day n) (Day m) f g p q = inr (date_of n, date_of m, p ∙ some-date-is (date_of n), q ∙ some-date-is (date_of m))
-    of-days a b (Day n) None (l, h, t) g p q = absurd (clash (is_common_trading_day markets n) t (g n l h))
-    of-days a b None (Day m) f (l, h, t) p q = absurd (clash (is_common_trading_day markets m) t (f m l h))
+    of-days a b (Some n) (Some m) f g p q = inr (date_of n, date_of m, p ∙ some-date-is (date_of n), q ∙ some-date-is (date_of m))
+    of-days a b (Some n) None (l, h, t) g p q = absurd (clash (is_common_trading_day markets n) t (g n l h))
+    of-days a b None (Some m) f (l, h, t) p q = absurd (clash (is_common_trading_day markets m) t (f m l h))
     of-days a b None None f g p q = inl (p ∙ sym q)
 
-    by : (c : RangeResult) → CommonDayPast markets c r → CommonDayPast markets c s → (r ≡ s) ⊎ ((t u : Date) × (r ≡ some_date t) × (s ≡ some_date u))
-    by (RangeResult.Ok a b) (d, f, p) (e, g, q) = of-days a b d e f g p q
-    by (RangeResult.Err e) p q = inl (p ∙ sym q)
+    by : (c : Result (ℕ × ℕ) CalendarError) → CommonDayPast markets c r → CommonDayPast markets c s → (r ≡ s) ⊎ ((t u : Date) × (r ≡ some_date t) × (s ≡ some_date u))
+    by (Ok (a, b)) (d, f, p) (e, g, q) = of-days a b d e f g p q
+    by (Err e) p q = inl (p ∙ sym q)
 
 last-is-right : (markets : ℕ) (start end : Date) → CommonTradingDay markets start end (last_common_day markets start end)
 last-is-right markets start end = by (checked_set_range markets start end) refl
   where
-    by : (c : RangeResult) → checked_set_range markets start end ≡ c
-        → CommonDayPast markets c (optional_date_answer (try_range c OptionalDateResult.Err (λ a b. found_on (previous_trading_day (is_common_trading_day markets) a (suc b)))))
-    by (RangeResult.Ok a b) q =
+    by : (c : Result (ℕ × ℕ) CalendarError) → checked_set_range markets start end ≡ c
+        → CommonDayPast markets c (optional_date_answer (result_and_then c (λ (a, b). found_on (previous_trading_day (is_common_trading_day markets) a (suc b)))))
+    by (Ok (a, b)) q =
         let low = (range-checked start end a b (set-checked markets start end a b q).1).same.low in
         (previous_trading_day (is_common_trading_day markets) a (suc b), last_some (is_common_trading_day markets) a b low, refl)
-    by (RangeResult.Err e) q = refl
+    by (Err e) q = refl
 
 -- [common-day-laws]
 pub common-day-laws : AllCommonDayLaws
@@ -272,7 +270,7 @@ common-day-laws = record {
     answered = λ z. is-answered markets start end r (searched markets start end r w z);
     reversed = λ z. reversed markets start end r (searched markets start end r w z);
     any-date = λ z. any-date markets start end r (searched markets start end r w z);
-    no-set = λ n. past markets start end r w (RangeResult.Err InvalidMarketSet) (no-set markets start end n) ∙ no-set-is;
+    no-set = λ n. past markets start end r w (Err InvalidMarketSet) (no-set markets start end n) ∙ no-set-is;
     date-error = date-error markets start end r w;
     no-error = no-error markets start end r w;
     one-market-none = λ market known e q. one-market-none markets start end r w market 0 known e q refl;

@@ -1,13 +1,12 @@
 -- One claim about the call for a day common to several markets, and the calls for each of them: docs/SCOPE.md [common-day-laws]. It is of
 -- every answer that the contract of the call allows. The answers are the structs that the exported calls return, by the definitions that
 -- their contracts cite. Assumes nothing.
-use Rattle.std.specs.Prelude.{ℕ, suc, ◌^◌, ◌≤◌, ◌<◌, ◌≡◌, true, false, cond, ◌⊎◌, length}
+use Rattle.std.specs.Prelude.{ℕ, suc, ◌^◌, ◌≤◌, ◌<◌, ◌≡◌, true, false, cond, ◌⊎◌, length, Err}
 use Rattle.gregorian.specs.declared.Date.{Date}
 use Rattle.gregorian.specs.Calendar.{no_date, is_date_of, number}
 use Rattle.markets.specs.Markets.{holidays_by_code, is_market, is_trading_day}
 use Rattle.ranges.specs.Ranges.{days_from, previous_trading_day, sum_of}
-use Rattle.error.specs.declared.OptionalDateResult.{OptionalDateResult}
-use Rattle.checks.specs.Checks.{try_range}
+use Rattle.error.specs.Errors.{result_and_then}
 use Rattle.calendar.specs.CalendarCalls.{is_trading_day_result}
 use Rattle.market_sets.specs.MarketSets.{has_market, is_market_set, is_common_trading_day, checked_set_range, found_on}
 use Rattle.answers.specs.declared.BoolAnswer.{BoolAnswer}
@@ -68,7 +67,7 @@ pub record CommonDayLaws (markets : ℕ) (start end : Date) (r : OptionalDateAns
 abbrev pub last_common_day : ℕ → Date → Date → OptionalDateAnswer
 last_common_day markets start end =
     optional_date_answer
-    (try_range (checked_set_range markets start end) OptionalDateResult.Err (λ a b. found_on (previous_trading_day (is_common_trading_day markets) a (suc b))))
+    (result_and_then (checked_set_range markets start end) (λ (a, b). found_on (previous_trading_day (is_common_trading_day markets) a (suc b))))
 
 -- for every set, range and answer
 pub record AllCommonDayLaws : Type 0 where

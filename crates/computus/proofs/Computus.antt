@@ -1,5 +1,6 @@
 -- The Easter of the Anonymous Gregorian algorithm is that of the computus, in years 1 to 9999.
 -- Assumes nothing.
+use Rattle.std.proofs.Common.{Some}
 use Prim.Native.Nat.{ℕ, ◌+◌, ◌-◌, ◌%◌, ◌≤◌}
 use mathlib.Core.Path.{◌≡◌, refl, ap, sym, ◌∙◌}
 use mathlib.Core.Bool.{Bool, true}
@@ -10,7 +11,6 @@ use Rattle.gregorian.specs.Calendar.{leap, leap_day, month_length, total, day_nu
 use Rattle.gregorian.proofs.Laws.{number-of-date, date-of-is}
 use Rattle.gregorian.proofs.Tests.{every, every-at}
 use Rattle.gregorian.proofs.YearDays.{years, years-is}
-use Rattle.utils.specs.declared.OptionalDay.TheVariants.{Day}
 use Rattle.utils.specs.Weekday.{first_from}
 use Rattle.utils.specs.Easter.{moon_days, easter}
 use Rattle.utils.proofs.WeekdayLaws.{first-is}
@@ -57,7 +57,7 @@ easter-by-computus y l h =
     let n = number-of-date (computus y) (omega (arith, d, e)) in
     record {
       easter = date_of (computus y);
-      returned = ap optional_date (easter-found y l h ∙ ap Day e);
+      returned = ap optional_date (easter-found y l h ∙ ap Some e);
       is-date = date-of-is (computus y) (omega (arith, d, e)) (omega (arith, d, e));
       by-computus = n;
       on-sunday = ap weekday_of n ∙ first-is (full_moon y + 1) sunday (lit≤ tt);

@@ -1,5 +1,5 @@
 -- The errors by number, and what is returned with them: docs/SCOPE.md [errors], [reading-nothing]. Assumes nothing.
-use Rattle.std.specs.Prelude.{ℕ}
+use Rattle.std.specs.Prelude.{ℕ, Result, Ok, Err}
 use Rattle.gregorian.specs.declared.Date.{Date}
 use Rattle.gregorian.specs.Calendar.{no_date}
 use Rattle.error.specs.declared.ErrorFields.{ErrorFields}
@@ -34,3 +34,8 @@ error_count e = (error_fields e).count
 
 abbrev pub error_date : CalendarError → Date
 error_date e = (error_fields e).date
+
+-- the Rust's `?`, and what follows it: an error is handed on
+abbrev pub result_and_then : {T U : Type 0} → Result T CalendarError → (T → Result U CalendarError) → Result U CalendarError
+result_and_then (Ok x) rest = rest x
+result_and_then (Err e) rest = Err e

@@ -25,32 +25,6 @@ pub enum CalendarError {
     InvalidTime,
 }
 
-// In the place of the Rust's Result<T>, for each kind of answer that needs no other crate.
-#[derive(Clone, Copy)]
-pub enum BoolResult {
-    Ok(bool),
-    Err(CalendarError),
-}
-
-#[derive(Clone, Copy)]
-pub enum TimeResult {
-    Ok(u32),
-    Err(CalendarError),
-}
-
-#[derive(Clone, Copy)]
-pub enum CountResult {
-    Ok(u32),
-    Err(CalendarError),
-}
-
-#[derive(Clone, Copy)]
-pub enum OptionalDateResult {
-    Found(Date),
-    None,
-    Err(CalendarError),
-}
-
 // [errors]: the number of an error, the number of entries returned with error 9, and the date returned with error 1; 0 and no date
 // where nothing is returned [reading-nothing].
 #[derive(Clone, Copy)]
@@ -71,30 +45,32 @@ fn only_number(number: u32) -> ErrorFields
     }
 }
 
-#[tactic(auto, unfolding(crate::specs::Errors::error_fields))]
-pub fn fields(e: CalendarError) -> ErrorFields
-    ensures { result ≡ error_fields e }
-{
-    match e {
-        CalendarError::MalformedText => only_number(10),
-        CalendarError::UnknownMarket => only_number(8),
-        CalendarError::InvalidMarketSet => only_number(12),
-        CalendarError::InvalidDate => only_number(5),
-        CalendarError::TimeOutOfRange => only_number(7),
-        CalendarError::DateOutOfRange(date) => ErrorFields {
-            number: 1,
-            count: 0,
-            date,
-        },
-        CalendarError::InvalidDateCalculation => only_number(2),
-        CalendarError::NoTradingDayFound => only_number(6),
-        CalendarError::NoTradingDayInRange => only_number(11),
-        CalendarError::BufferTooSmall(needed) => ErrorFields {
-            number: 9,
-            count: needed,
-            date: NO_DATE,
-        },
-        CalendarError::InvalidSession => only_number(3),
-        CalendarError::InvalidTime => only_number(4),
+impl From<CalendarError> for ErrorFields {
+    ghost from_gives = { λ e fields. fields ≡ error_fields e };
+
+    #[tactic(auto, unfolding(crate::specs::Errors::error_fields))]
+    fn from(e: CalendarError) -> Self {
+        match e {
+            CalendarError::MalformedText => only_number(10),
+            CalendarError::UnknownMarket => only_number(8),
+            CalendarError::InvalidMarketSet => only_number(12),
+            CalendarError::InvalidDate => only_number(5),
+            CalendarError::TimeOutOfRange => only_number(7),
+            CalendarError::DateOutOfRange(date) => ErrorFields {
+                number: 1,
+                count: 0,
+                date,
+            },
+            CalendarError::InvalidDateCalculation => only_number(2),
+            CalendarError::NoTradingDayFound => only_number(6),
+            CalendarError::NoTradingDayInRange => only_number(11),
+            CalendarError::BufferTooSmall(needed) => ErrorFields {
+                number: 9,
+                count: needed,
+                date: NO_DATE,
+            },
+            CalendarError::InvalidSession => only_number(3),
+            CalendarError::InvalidTime => only_number(4),
+        }
     }
 }

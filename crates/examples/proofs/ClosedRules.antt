@@ -1,5 +1,6 @@
 -- Holidays, trading days, the next of them and dates in forms that can be computed, each with the proof that it is the definition.
 -- Assumes nothing.
+use Rattle.std.proofs.Common.{Option, Some, None, Result, Ok}
 use Prim.Native.Nat.{ℕ, suc, ◌+◌, ◌-◌, ◌≤◌, min}
 use mathlib.Core.Path.{◌≡◌, refl, sym, ap, ◌∙◌}
 use mathlib.Core.Bool.{Bool, true, false, cond, not, ◌&&◌, ◌||◌}
@@ -11,8 +12,6 @@ use Rattle.gregorian.specs.declared.Date.{Date}
 use Rattle.gregorian.specs.Calendar.{total, year_length, last_year, is_date_of, number, date_of}
 use Rattle.gregorian.proofs.Tests.{and_left, and_right}
 use Rattle.gregorian.proofs.Laws.{is-date, date-of-number}
-use Rattle.utils.specs.declared.OptionalDay.{OptionalDay}
-use Rattle.utils.specs.declared.OptionalDay.TheVariants.{Day, None}
 use Rattle.rule_days.specs.Days.{contains}
 use Rattle.markets.specs.Markets.{holidays, is_weekend, is_holiday, is_trading_day}
 use Rattle.markets.specs.Years.{is_supported, last_day_of}
@@ -21,10 +20,11 @@ use Rattle.ranges.proofs.Lists.{from-split}
 use Rattle.market_runs.specs.MarketAgreement.{longest_run}
 use Rattle.market_runs.proofs.ClosedForms.{closed_holidays, closed-holidays}
 use Rattle.market_runs.proofs.YearFlags.{before, in-year}
-use Rattle.range_calls.specs.declared.TradingDayResult.{TradingDayResult}
 use Rattle.range_calls.specs.RangeCalls.{distance_of, trading_day, trading_day_result}
 use Rattle.answers.specs.declared.OptionalDate.{OptionalDate}
 use Rattle.answers.specs.Answers.{optional_date}
+use Rattle.error.specs.declared.CalendarError.{CalendarError}
+use Rattle.range_calls.specs.declared.TradingDay.{TradingDay}
 
 -- ---- holidays and trading days
 
@@ -77,23 +77,23 @@ closed_date t n =
     by-test false e = (date_of n, refl)
 
 -- the answers that have the date of a day
-unfoldable pub closed_optional : (t : Date) (o : OptionalDay) → (a : OptionalDate) × (optional_date o ≡ a)
+unfoldable pub closed_optional : (t : Date) (o : Option ℕ) → (a : OptionalDate) × (optional_date o ≡ a)
 unfolding closed_date optional_date
-closed_optional t (Day n) = (_, ap (λ (u : Date). record { found = 1; date = u }) (closed_date t n).1)
+closed_optional t (Some n) = (_, ap (λ (u : Date). record { found = 1; date = u }) (closed_date t n).1)
 closed_optional t None = (_, refl)
 
-unfoldable pub closed_neighbour : (t : Date) (year n : ℕ) (o : OptionalDay) → (r : TradingDayResult) × (trading_day_result year n o ≡ r)
+unfoldable pub closed_neighbour : (t : Date) (year n : ℕ) (o : Option ℕ) → (r : Result TradingDay CalendarError) × (trading_day_result year n o ≡ r)
 unfolding closed_date trading_day_result trading_day
-closed_neighbour t year n (Day m) =
+closed_neighbour t year n (Some m) =
     let mark : ℕ → Bool = λ y. not (is_supported year) || not (is_supported y) in
-    (_, ap (λ (u : Date). TradingDayResult.Ok (record { date = u; distance = distance_of n m; outside = mark u.year })) (closed_date t m).1)
+    (_, ap (λ (u : Date). Ok (record { date = u; distance = distance_of n m; outside = mark u.year })) (closed_date t m).1)
 closed_neighbour t year n None = (_, refl)
 
 -- ---- the next trading day
 
 -- what the first search found, or else the second
-abbrev pub or_else : OptionalDay → OptionalDay → OptionalDay
-or_else (Day n) later = Day n
+abbrev pub or_else : Option ℕ → Option ℕ → Option ℕ
+or_else (Some n) later = Some n
 or_else None later = later
 
 module _ (trades : ℕ → Bool) where
@@ -115,13 +115,13 @@ module _ (trades : ℕ → Bool) where
       ∙ find-append (days_from a (min i k)) (days_from (a + min i k) (k - min i k))
 
 -- The search of as many days as a run may have, and one more; and its answer, where t is the date that is expected.
-unfoldable pub closed_next : (market y n : ℕ) → (o : OptionalDay) × (next_trading_day (is_trading_day market) (last_day_of market) n ≡ o)
+unfoldable pub closed_next : (market y n : ℕ) → (o : Option ℕ) × (next_trading_day (is_trading_day market) (last_day_of market) n ≡ o)
 unfolding trading_rule find days_from
 closed_next market y n =
     let rule = trading_rule market y in
     (_, ap (λ (trades : ℕ → Bool). next_trading_day trades (last_day_of market) n) rule.1 ∙ find-early rule.0 (suc longest_run) (suc (last_day_of market) - suc n) (suc n))
 
-unfoldable pub closed_next_result : (market y : ℕ) (t : Date) (n : ℕ) → (r : TradingDayResult) × (trading_day_result y n (next_trading_day (is_trading_day market) (last_day_of market) n) ≡ r)
+unfoldable pub closed_next_result : (market y : ℕ) (t : Date) (n : ℕ) → (r : Result TradingDay CalendarError) × (trading_day_result y n (next_trading_day (is_trading_day market) (last_day_of market) n) ≡ r)
 unfolding closed_next closed_neighbour
 closed_next_result market y t n =
     let next = closed_next market y n in

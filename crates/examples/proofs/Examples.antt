@@ -1,5 +1,6 @@
 -- Every row of the two tables holds. One test of all rows is computed, and a lemma turns it into the facts.
 -- Assumes nothing.
+use Rattle.std.proofs.Common.{Result, Ok, Err}
 use Prim.Native.Nat.{ℕ}
 use mathlib.Core.Path.{◌≡◌, refl, ap, ◌∙◌}
 use mathlib.Core.Bool.{Bool, true, cond, not}
@@ -9,12 +10,10 @@ use Rattle.utils.specs.Easter.{calculate_easter}
 use Rattle.markets.specs.Markets.{is_market}
 use Rattle.markets.specs.Years.{is_supported, last_day_of}
 use Rattle.ranges.specs.Ranges.{days_from, Every, count_from, count_trading_days}
-use Rattle.error.specs.declared.BoolResult.{BoolResult}
-use Rattle.error.specs.declared.CountResult.{CountResult}
 use Rattle.error.specs.declared.CalendarError.TheVariants.{UnknownMarket}
 use Rattle.error.specs.Errors.{error_fields}
-use Rattle.range_calls.specs.declared.TradingDayResult.{TradingDayResult}
-use Rattle.checks.specs.Checks.{checked_day, try_day, supported_day, leaves_years, checked_range, try_range}
+use Rattle.checks.specs.Checks.{checked_day, supported_day, leaves_years, checked_range}
+use Rattle.error.specs.Errors.{result_and_then}
 use Rattle.range_calls.specs.RangeCalls.{distance_of}
 use Rattle.answers.specs.declared.BoolAnswer.{BoolAnswer}
 use Rattle.answers.specs.declared.neighbouring_days.TradingDayAnswer.{TradingDayAnswer}
@@ -22,21 +21,23 @@ use Rattle.answers.specs.declared.counts.CountAnswer.{CountAnswer}
 use Rattle.answers.specs.Answers.{flag_of, bool_answer, trading_day_answer, count_answer}
 use Rattle.examples.specs.Examples.{Example, CalculateEaster, IsTradingDay, IsHoliday, NextTradingDay, CountTradingDays, Holds, examples, month_first_examples, ExamplesHold}
 use Rattle.examples.proofs.ClosedRules.{holiday_rule, trading_rule, closed_optional, closed_next_result}
+use Rattle.error.specs.declared.CalendarError.{CalendarError}
+use Rattle.range_calls.specs.declared.TradingDay.{TradingDay}
 
 -- ---- the answers, by any rule in the place of the market's
 
 abbrev bool_by : ℕ → Date → (ℕ → Bool) → BoolAnswer
 bool_by market t rule =
-    bool_answer (try_day (supported_day market t.year t.month t.day true) BoolResult.Err (λ n. BoolResult.Ok (rule n)))
+    bool_answer (result_and_then (supported_day market t.year t.month t.day true) (λ n. Ok (rule n)))
 
-abbrev next_by : ℕ → Date → (ℕ → TradingDayResult) → TradingDayAnswer
-next_by market t next = trading_day_answer (try_day (checked_day market t.year t.month t.day) TradingDayResult.Err next)
+abbrev next_by : ℕ → Date → (ℕ → Result TradingDay CalendarError) → TradingDayAnswer
+next_by market t next = trading_day_answer (result_and_then (checked_day market t.year t.month t.day) next)
 
 abbrev count_by : ℕ → Date → Date → (ℕ → Bool) → CountAnswer
 count_by market s t trades =
     count_answer
-    (cond (not (is_market market)) (CountResult.Err UnknownMarket)
-    (try_range (checked_range s t) CountResult.Err (λ start end. CountResult.Ok (count_trading_days trades start end))))
+    (cond (not (is_market market)) (Err UnknownMarket)
+    (result_and_then (checked_range s t) (λ (start, end). Ok (count_trading_days trades start end))))
 
 -- ---- the test
 

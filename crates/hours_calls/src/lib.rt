@@ -2,100 +2,79 @@
 #![tactic(auto)]
 
 ghost use Rattle.std.specs.Prelude.{◌≡◌};
-ghost use Rattle.hours_calls.specs.HoursCalls.{session_in_range, optional_session_in_range, optional_time_in_range, hours_in_range, checked_hours};
+ghost use Rattle.hours_calls.specs.HoursCalls.{session_in_range, hours_in_range, checked_hours};
 ghost use Rattle.hours_calls.specs.HoursCalls.{session_new_result, session_contains_result, trading_hours_new_result, with_early_close_result};
 ghost use Rattle.hours_calls.specs.HoursCalls.{is_early_close_result, market_close_result, is_open_at_result};
 
 use checks::is_time;
-use error::{BoolResult, CalendarError, TimeResult};
+use error::CalendarError;
 use gregorian::Date;
-use schedule::{HoursResult, OptionalSession, OptionalTime, Session, SessionResult, TradingHours};
+use schedule::{Session, TradingHours};
 
-// Whether each number is a time; an absent part has none.
+// Whether each number is a time.
 fn session_in_range(session: Session) -> bool
     ensures { result ≡ session_in_range session }
 {
     is_time(session.start) & is_time(session.end)
 }
 
-fn optional_session_in_range(session: OptionalSession) -> bool
-    ensures { result ≡ optional_session_in_range session }
-{
-    match session {
-        OptionalSession::Some(session) => session_in_range(session),
-        OptionalSession::None => true,
-    }
-}
-
-fn optional_time_in_range(time: OptionalTime) -> bool
-    ensures { result ≡ optional_time_in_range time }
-{
-    match time {
-        OptionalTime::Some(time) => is_time(time),
-        OptionalTime::None => true,
-    }
-}
-
+// The same of a record, of which an absent part has none.
 #[tactic(auto, unfolding(crate::specs::HoursCalls::hours_in_range))]
 fn hours_in_range(hours: TradingHours) -> bool
     ensures { result ≡ hours_in_range hours }
 {
-    let pre_market = hours.pre_market;
-    let regular = hours.regular;
-    let after_hours = hours.after_hours;
-    let early_close = hours.early_close;
-    optional_session_in_range(pre_market)
-        & session_in_range(regular)
-        & optional_session_in_range(after_hours)
-        & optional_time_in_range(early_close)
+    hours.pre_market.is_none_or(session_in_range)
+        & session_in_range(hours.regular)
+        & hours.after_hours.is_none_or(session_in_range)
+        & hours.early_close.is_none_or(is_time)
 }
 
 // [errors]: the first of 5 and 7 that applies, or the hours. A call that takes no time has none out of range.
 #[tactic(auto, unfolding(crate::specs::HoursCalls::checked_hours))]
-fn checked_hours(hours: TradingHours, time_in_range: bool) -> HoursResult
+fn checked_hours(hours: TradingHours, time_in_range: bool) -> Result<TradingHours, CalendarError>
     ensures { result ≡ checked_hours hours time_in_range }
 {
     let date = hours.date;
     let is_date = gregorian::is_date(date.year, date.month, date.day);
     let hours_in_range = hours_in_range(hours) & time_in_range;
     if !is_date {
-        return HoursResult::Err(CalendarError::InvalidDate);
+        return Err(CalendarError::InvalidDate);
     }
     if !hours_in_range {
-        return HoursResult::Err(CalendarError::TimeOutOfRange);
+        return Err(CalendarError::TimeOutOfRange);
     }
-    HoursResult::Ok(hours)
+    Ok(hours)
 }
 
 // [session-new]
 #[tactic(auto, unfolding(crate::specs::HoursCalls::session_new_result))]
-pub fn session_new(start: u32, end: u32) -> SessionResult
+pub fn session_new(start: u32, end: u32) -> Result<Session, CalendarError>
     ensures { result ≡ session_new_result start end }
 {
     if !session_in_range(Session { start, end }) {
-        return SessionResult::Err(CalendarError::TimeOutOfRange);
+        return Err(CalendarError::TimeOutOfRange);
     }
     Session::new(start, end)
 }
 
 // [contains]
 #[tactic(auto, unfolding(crate::specs::HoursCalls::session_contains_result))]
-pub fn session_contains(session: Session, time: u32) -> BoolResult
+pub fn session_contains(session: Session, time: u32) -> Result<bool, CalendarError>
     ensures { result ≡ session_contains_result session time }
 {
     if !(session_in_range(session) & is_time(time)) {
-        return BoolResult::Err(CalendarError::TimeOutOfRange);
+        return Err(CalendarError::TimeOutOfRange);
     }
-    BoolResult::Ok(session.contains(time))
+    Ok(session.contains(time))
 }
 
 // [hours-new]
 pub fn trading_hours_new(
     date: Date,
     regular: Session,
-    pre_market: OptionalSession,
-    after_hours: OptionalSession,
-) -> HoursResult
+    pre_market: Option<Session>,
+    after_hours: Option<Session>,
+) -> Result<TradingHours, CalendarError>
     ensures { result ≡ trading_hours_new_result date regular pre_market after_hours }
 {
     checked_hours(
@@ -105,41 +84,29 @@ pub fn trading_hours_new(
 }
 
 // [with-early-close]
-pub fn with_early_close(hours: TradingHours, time: u32) -> HoursResult
+pub fn with_early_close(hours: TradingHours, time: u32) -> Result<TradingHours, CalendarError>
     ensures { result ≡ with_early_close_result hours time }
 {
-    match checked_hours(hours, is_time(time)) {
-        HoursResult::Ok(hours) => hours.with_early_close(time),
-        HoursResult::Err(e) => HoursResult::Err(e),
-    }
+    checked_hours(hours, is_time(time))?.with_early_close(time)
 }
 
 // [is-early-close]
-pub fn is_early_close(hours: TradingHours) -> BoolResult
+pub fn is_early_close(hours: TradingHours) -> Result<bool, CalendarError>
     ensures { result ≡ is_early_close_result hours }
 {
-    match checked_hours(hours, true) {
-        HoursResult::Ok(hours) => BoolResult::Ok(hours.is_early_close()),
-        HoursResult::Err(e) => BoolResult::Err(e),
-    }
+    Ok(checked_hours(hours, true)?.is_early_close())
 }
 
 // [market-close]
-pub fn market_close(hours: TradingHours) -> TimeResult
+pub fn market_close(hours: TradingHours) -> Result<u32, CalendarError>
     ensures { result ≡ market_close_result hours }
 {
-    match checked_hours(hours, true) {
-        HoursResult::Ok(hours) => TimeResult::Ok(hours.market_close()),
-        HoursResult::Err(e) => TimeResult::Err(e),
-    }
+    Ok(checked_hours(hours, true)?.market_close())
 }
 
 // [is-open-at]
-pub fn is_open_at(hours: TradingHours, time: u32) -> BoolResult
+pub fn is_open_at(hours: TradingHours, time: u32) -> Result<bool, CalendarError>
     ensures { result ≡ is_open_at_result hours time }
 {
-    match checked_hours(hours, is_time(time)) {
-        HoursResult::Ok(hours) => BoolResult::Ok(hours.is_open_at(time)),
-        HoursResult::Err(e) => BoolResult::Err(e),
-    }
+    Ok(checked_hours(hours, is_time(time))?.is_open_at(time))
 }

@@ -1,5 +1,6 @@
 -- The holidays of Japan by their months: docs/SCOPE.md [month-first], [tse-substitute].
 -- Assumes nothing.
+use Rattle.std.proofs.Common.{Option, Some, None}
 use Prim.Native.Nat.{ℕ, zero, suc, ◌+◌, ◌-◌, ◌*◌, ◌≤◌, ◌<◌}
 use mathlib.Core.Path.{◌≡◌, refl, ap, sym, ◌∙◌, subst}
 use mathlib.Core.Bool.{Bool, true, false, cond, ◌&&◌, ◌||◌}
@@ -16,8 +17,6 @@ use Rattle.gregorian.specs.declared.days.CalendarDay.{CalendarDay}
 use Rattle.gregorian.specs.Inner.{SameDay}
 use Rattle.gregorian.proofs.Tests.{and_left, and_right, and-false}
 use Rattle.gregorian.proofs.Laws.{days-on, is-date, number-before}
-use Rattle.utils.specs.declared.OptionalDay.{OptionalDay}
-use Rattle.utils.specs.declared.OptionalDay.TheVariants.{Day, None}
 use Rattle.utils.specs.Weekday.{nth_weekday_of_month}
 use Rattle.utils.proofs.WeekdayLaws.{when-day, first-near, nth-weekday}
 use Rattle.rule_days.specs.Inner.{any_of, is_between, every_year_has, every_between}
@@ -45,10 +44,10 @@ day-order : (y m d e : ℕ) → d ≤ e → day_number y m d ≤ day_number y m 
 unfolding day_number
 day-order y m d e h = omega arith
 
-equinox-near : (days : List ℕ) (low high m y t : ℕ) → every_between low high days 11 ≡ true → equinox days y m ≡ Day t → (day_number y m low ≤ t) × (t ≤ day_number y m high)
+equinox-near : (days : List ℕ) (low high m y t : ℕ) → every_between low high days 11 ≡ true → equinox days y m ≡ Some t → (day_number y m low ≤ t) × (t ≤ day_number y m high)
 unfolding equinox
 equinox-near days low high m y t k e =
-    let c = when-day (leb 2020 y && leb y 2030) (Day (day_number y m (get_or days (y - 2020) 0))) t e in
+    let c = when-day (leb 2020 y && leb y 2030) (Some (day_number y m (get_or days (y - 2020) 0))) t e in
     let l = leb-true 2020 y (and_left (leb 2020 y) _ c.0) in
     let h = leb-true y 2030 (and_right (leb 2020 y) _ c.0) in
     let d = between low high days 11 (y - 2020) k (omega arith) in
@@ -56,7 +55,7 @@ equinox-near days low high m y t k e =
     (subst (λ (i : ℕ). day_number y m low ≤ i) q (day-order y m _ _ d.0), subst (λ (i : ℕ). i ≤ day_number y m high) q (day-order y m _ _ d.1))
 
 -- the nth weekday is in the first n weeks of the month
-nth-high : (y m w n t : ℕ) → nth_weekday_of_month y m w (pos n) ≡ Day t → 1 ≤ n → t ≤ day_number y m (7 * n)
+nth-high : (y m w n t : ℕ) → nth_weekday_of_month y m w (pos n) ≡ Some t → 1 ≤ n → t ≤ day_number y m (7 * n)
 unfolding day_number
 nth-high y m w n t e h = omega (arith, (nth-weekday y m w (pos n) t e).weeks, first-near (day_number y m 1) w)
 
@@ -112,13 +111,13 @@ put-none : {ds : List ℕ} {test : ℕ → Bool} {a : ℕ} → Account ds test a
 put-none {ds} {test} {a} s b h =
     record { same = λ n. s.same n ∙ sym (or-false (test n)); high = up-to-more ds a b h s.high }
 
-put-day : {ds : List ℕ} {test : ℕ → Bool} {a : ℕ} → Account ds test a → (r : OptionalDay) (b : ℕ) → a ≤ b → ((t : ℕ) → r ≡ Day t → t ≤ b) → Account (insert_day ds r) (λ n. test n || is_day r n) b
+put-day : {ds : List ℕ} {test : ℕ → Bool} {a : ℕ} → Account ds test a → (r : Option ℕ) (b : ℕ) → a ≤ b → ((t : ℕ) → r ≡ Some t → t ≤ b) → Account (insert_day ds r) (λ n. test n || is_day r n) b
 unfolding insert_day
-put-day s (Day t) b h k = put s t b h (k t refl)
+put-day s (Some t) b h k = put s t b h (k t refl)
 put-day s None b h k = put-none s b h
 
 -- A date with its substitute, which is the next day: where the date is not before the days of the list, that day is free.
-first-attempt : (ds : List ℕ) (k n : ℕ) → contains ds n ≡ false → substitute_day ds (suc k) n ≡ Day n
+first-attempt : (ds : List ℕ) (k n : ℕ) → contains ds n ≡ false → substitute_day ds (suc k) n ≡ Some n
 unfolding substitute_day
 first-attempt ds k n e = simp e
 
@@ -128,7 +127,7 @@ add-by {ds} {test} {a} s d h true =
     let i = put s d d h (omega arith) in
     let e = first-attempt (insert ds d) 6 (d + 1) (free (insert ds d) d (d + 1) i.high (omega arith)) in
     let j = put i (d + 1) (d + 1) (omega arith) (omega arith) in
-    subst (λ (r : OptionalDay). Account (insert_day (insert ds d) r) (λ n. test n || (eqb n d || eqb n (d + 1))) (d + 1)) (sym e)
+    subst (λ (r : Option ℕ). Account (insert_day (insert ds d) r) (λ n. test n || (eqb n d || eqb n (d + 1))) (d + 1)) (sym e)
     (record { same = λ n. j.same n ∙ sym (or_assoc (test n) (eqb n d) (eqb n (d + 1))); high = j.high })
 add-by {ds} {test} {a} s d h false =
     let i = put s d (d + 1) (omega arith) (omega arith) in
@@ -138,9 +137,9 @@ add : {ds : List ℕ} {test : ℕ → Bool} {a : ℕ} → Account ds test a → 
 unfolding add_with_substitute
 add s d h = add-by s d h (eqb (weekday_of d) sunday)
 
-add-day : {ds : List ℕ} {test : ℕ → Bool} {a : ℕ} → Account ds test a → (r : OptionalDay) (b : ℕ) → a ≤ b → ((t : ℕ) → r ≡ Day t → (a ≤ t) × (t + 1 ≤ b)) → Account (add_day_with_substitute ds r) (λ n. test n || is_day_with_substitute r n) b
+add-day : {ds : List ℕ} {test : ℕ → Bool} {a : ℕ} → Account ds test a → (r : Option ℕ) (b : ℕ) → a ≤ b → ((t : ℕ) → r ≡ Some t → (a ≤ t) × (t + 1 ≤ b)) → Account (add_day_with_substitute ds r) (λ n. test n || is_day_with_substitute r n) b
 unfolding add_day_with_substitute
-add-day s (Day t) b h k = let g = k t refl in later (add s t g.0) b g.1
+add-day s (Some t) b h k = let g = k t refl in later (add s t g.0) b g.1
 add-day s None b h k = put-none s b h
 
 -- Golden Week: the rule for a Friday 3 May and a Sunday 5 May adds what the substitute of 5 May has added.
@@ -223,8 +222,8 @@ module _ (day : CalendarDay) (s : SameDay day) (h : day.number ≤ last_day) whe
   equinox-in : (days : List ℕ) (m low high : ℕ) → every_between low high days 11 ≡ true → every_year_has m low ≡ true → every_year_has m (low + 2) ≡ true → low + 1 ≡ high → Fits month (m ∷ []) (is_day_with_substitute (equinox days y m) n)
   equinox-in days m low high k p q next = near day s h m low 2 (is_day_with_substitute (equinox days y m) n) p q (by (equinox days y m) refl)
     where
-      by : (r : OptionalDay) → equinox days y m ≡ r → is_between (day_number y m low) (day_number y m low + 2) n ≡ false → false ≡ is_day_with_substitute r n
-      by (Day t) f e = let r = equinox-near days low high m y t k f in not-with _ _ t n r.0 (omega (arith, r, days-on y m low 1, ap (day_number y m) next)) e
+      by : (r : Option ℕ) → equinox days y m ≡ r → is_between (day_number y m low) (day_number y m low + 2) n ≡ false → false ≡ is_day_with_substitute r n
+      by (Some t) f e = let r = equinox-near days low high m y t k f in not-with _ _ t n r.0 (omega (arith, r, days-on y m low 1, ap (day_number y m) next)) e
       by None f e = refl
 
   bridge_in : Fits month (5 ∷ []) (is_bridge_day y n)

@@ -1,9 +1,7 @@
 -- Inner: no exported contract and no claim rests on these. The holidays of TSE by the months that they can fall in [month-first], by a
 -- shorter account of docs/SCOPE.md [tse-holidays]. Assumes nothing.
-use Rattle.std.specs.Prelude.{ℕ, ◌+◌, Bool, false, ◌&&◌, ◌||◌, List, [], ◌∷◌, eqb, pos}
+use Rattle.std.specs.Prelude.{ℕ, ◌+◌, Bool, false, ◌&&◌, ◌||◌, List, [], ◌∷◌, eqb, pos, Option, Some, None}
 use Rattle.gregorian.specs.Calendar.{monday, tuesday, thursday, sunday, day_number, weekday_of}
-use Rattle.utils.specs.declared.OptionalDay.{OptionalDay}
-use Rattle.utils.specs.declared.OptionalDay.TheVariants.{Day, None}
 use Rattle.utils.specs.Weekday.{nth_weekday_of_month}
 use Rattle.rule_days.specs.Days.{is_day}
 use Rattle.rule_days.specs.Inner.{Rule, on}
@@ -13,8 +11,8 @@ use Rattle.japan.specs.Japan.{calculate_vernal_equinox, calculate_autumnal_equin
 abbrev pub is_with_substitute : ℕ → ℕ → Bool
 is_with_substitute date n = eqb n date || eqb (weekday_of date) sunday && eqb n (date + 1)
 
-abbrev pub is_day_with_substitute : OptionalDay → ℕ → Bool
-is_day_with_substitute (Day date) n = is_with_substitute date n
+abbrev pub is_day_with_substitute : Option ℕ → ℕ → Bool
+is_day_with_substitute (Some date) n = is_with_substitute date n
 is_day_with_substitute None n = false
 
 -- [tse-golden-week]: 2 May if the 3rd is a Tuesday; 6 May if the 5th is a Thursday or the 4th a Sunday. Where the Rust adds 6 May for a

@@ -1,19 +1,17 @@
 -- The holidays of TSE, as src/markets/japan/holidays.rs has them: docs/SCOPE.md [tse-holidays]. Assumes nothing.
-use Rattle.std.specs.Prelude.{ℕ, zero, suc, ◌+◌, ◌-◌, cond, ◌&&◌, List, [], ◌∷◌, leb, eqb, get_or, pos}
+use Rattle.std.specs.Prelude.{ℕ, zero, suc, ◌+◌, ◌-◌, cond, ◌&&◌, List, [], ◌∷◌, leb, eqb, get_or, pos, Option, Some, None}
 use Rattle.gregorian.specs.Calendar.{monday, tuesday, thursday, friday, sunday, day_number, weekday_of}
-use Rattle.utils.specs.declared.OptionalDay.{OptionalDay}
-use Rattle.utils.specs.declared.OptionalDay.TheVariants.{Day, None}
 use Rattle.utils.specs.Weekday.{nth_weekday_of_month}
 use Rattle.rule_days.specs.Days.{contains, insert, insert_if, insert_day}
 
 -- The first day from `substitute` on that is no holiday yet, of as many as are `left`; None if there is none. The Rust's loop,
 -- `while holidays.contains(&substitute) && attempts < 7 { substitute += 1; attempts += 1 }`, with 7 - attempts as `left`, and what
 -- follows it, `if attempts < 7 { holidays.insert(substitute) }`.
-unfoldable pub substitute_day : List ℕ → ℕ → ℕ → OptionalDay
+unfoldable pub substitute_day : List ℕ → ℕ → ℕ → Option ℕ
 substitute_day holidays zero substitute = None
 substitute_day holidays (suc left) substitute =
     let later = substitute_day holidays left (substitute + 1) in
-    cond (contains holidays substitute) later (Day substitute)
+    cond (contains holidays substitute) later (Some substitute)
 
 -- add_with_substitute: the date and, if it is a Sunday, its substitute
 unfoldable pub add_with_substitute : List ℕ → ℕ → List ℕ
@@ -22,8 +20,8 @@ add_with_substitute holidays date =
     cond (eqb (weekday_of date) sunday) (insert_day holidays (substitute_day holidays 7 (date + 1))) holidays
 
 -- add_with_substitute where there is a date
-unfoldable pub add_day_with_substitute : List ℕ → OptionalDay → List ℕ
-add_day_with_substitute holidays (Day date) = add_with_substitute holidays date
+unfoldable pub add_day_with_substitute : List ℕ → Option ℕ → List ℕ
+add_day_with_substitute holidays (Some date) = add_with_substitute holidays date
 add_day_with_substitute holidays None = holidays
 
 -- [tse-equinox]: the days of March and of September, from 2020 to 2030
@@ -34,14 +32,14 @@ abbrev pub autumnal_days : List ℕ
 autumnal_days = 22 ∷ 23 ∷ 23 ∷ 23 ∷ 22 ∷ 23 ∷ 23 ∷ 23 ∷ 22 ∷ 23 ∷ 23 ∷ []
 
 -- calculate_vernal_equinox, calculate_autumnal_equinox: the day of the table in that month; None in other years
-unfoldable pub equinox : List ℕ → ℕ → ℕ → OptionalDay
+unfoldable pub equinox : List ℕ → ℕ → ℕ → Option ℕ
 equinox days year month =
-    cond (leb 2020 year && leb year 2030) (Day (day_number year month (get_or days (year - 2020) 0))) None
+    cond (leb 2020 year && leb year 2030) (Some (day_number year month (get_or days (year - 2020) 0))) None
 
-abbrev pub calculate_vernal_equinox : ℕ → OptionalDay
+abbrev pub calculate_vernal_equinox : ℕ → Option ℕ
 calculate_vernal_equinox year = equinox vernal_days year 3
 
-abbrev pub calculate_autumnal_equinox : ℕ → OptionalDay
+abbrev pub calculate_autumnal_equinox : ℕ → Option ℕ
 calculate_autumnal_equinox year = equinox autumnal_days year 9
 
 -- apply_golden_week_rules: 4 May, and 2 or 6 May by the weekdays of 3 to 5 May

@@ -13,7 +13,6 @@ ghost use Rattle.japan.specs.Inner.{is_with_substitute, is_day_with_substitute, 
 use gregorian::days::CalendarDay;
 use gregorian::{MONDAY, SUNDAY, THURSDAY, TUESDAY};
 use rule_days::{fixed_day, is_within, nth_weekday_for};
-use utils::OptionalDay;
 
 // [tse-equinox]: the days of March and of September in the years 2020 to 2030.
 const VERNAL_DAYS: [u32; 11] = [20, 20, 21, 21, 20, 20, 20, 21, 20, 20, 20];
@@ -112,7 +111,7 @@ fn is_bridge_day(day: CalendarDay) -> bool
 fn is_coming_of_age_day(day: CalendarDay) -> bool
     ensures { result ≡ is_day (nth_weekday_of_month day.date.year 1 monday (pos 2)) day.number }
 {
-    let OptionalDay::Day(coming_of_age_day) = nth_weekday_for(day, 1, MONDAY, 2) else {
+    let Some(coming_of_age_day) = nth_weekday_for(day, 1, MONDAY, 2) else {
         return false;
     };
     day.number == coming_of_age_day
@@ -122,7 +121,7 @@ fn is_coming_of_age_day(day: CalendarDay) -> bool
 fn is_marine_day(day: CalendarDay) -> bool
     ensures { result ≡ is_day (nth_weekday_of_month day.date.year 7 monday (pos 3)) day.number }
 {
-    let OptionalDay::Day(marine_day) = nth_weekday_for(day, 7, MONDAY, 3) else {
+    let Some(marine_day) = nth_weekday_for(day, 7, MONDAY, 3) else {
         return false;
     };
     day.number == marine_day
@@ -132,7 +131,7 @@ fn is_marine_day(day: CalendarDay) -> bool
 fn is_respect_for_aged_day(day: CalendarDay) -> bool
     ensures { result ≡ is_day (nth_weekday_of_month day.date.year 9 monday (pos 3)) day.number }
 {
-    let OptionalDay::Day(respect_for_aged_day) = nth_weekday_for(day, 9, MONDAY, 3) else {
+    let Some(respect_for_aged_day) = nth_weekday_for(day, 9, MONDAY, 3) else {
         return false;
     };
     day.number == respect_for_aged_day
@@ -142,7 +141,7 @@ fn is_respect_for_aged_day(day: CalendarDay) -> bool
 fn is_health_and_sports_day(day: CalendarDay) -> bool
     ensures { result ≡ is_day (nth_weekday_of_month day.date.year 10 monday (pos 2)) day.number }
 {
-    let OptionalDay::Day(sports_day) = nth_weekday_for(day, 10, MONDAY, 2) else {
+    let Some(sports_day) = nth_weekday_for(day, 10, MONDAY, 2) else {
         return false;
     };
     day.number == sports_day

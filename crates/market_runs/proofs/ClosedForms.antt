@@ -1,5 +1,6 @@
 -- The holidays of a market in a year, in a form that can be computed.
 -- Assumes nothing.
+use Rattle.std.proofs.Common.{Some}
 use Prim.Native.Nat.{ℕ, zero, suc, ◌≤◌}
 use mathlib.Core.Path.{◌≡◌, refl}
 use mathlib.Core.Bool.{Bool, true, ◌&&◌}
@@ -9,7 +10,6 @@ use lib.ListN.{get_or}
 use borrow.Author.Tests.{leb-true}
 use Rattle.gregorian.specs.Calendar.{leap, leap_day, year_length, month_length, total, last_year, is_date, day_number, weekday_of}
 use Rattle.gregorian.proofs.Tests.{and_left, and_right}
-use Rattle.utils.specs.declared.OptionalDay.TheVariants.{Day}
 use Rattle.utils.specs.Weekday.{first_from, target_day, nth_from_start, first_of_next, last_up_to, last_weekday_of_month}
 use Rattle.utils.specs.Easter.{moon_days, easter, calculate_easter, calculate_good_friday, calculate_easter_monday}
 use Rattle.utils.proofs.WeekdayLaws.{nth-early, nth_last}
@@ -27,7 +27,7 @@ abbrev is_early : ℕ → ℕ → ℕ → Bool
 is_early m w n = every_year_has m 1 && leb w 6 && leb 1 n && leb n 4
 
 -- The nth weekday compares the month of a date, which cannot be computed; the first four and the last one need no comparison.
-pub early : (y m w n : ℕ) → 1 ≤ y → y ≤ last_year → is_early m w n ≡ true → nth_from_start y m w n ≡ Day (target_day y m w n)
+pub early : (y m w n : ℕ) → 1 ≤ y → y ≤ last_year → is_early m w n ≡ true → nth_from_start y m w n ≡ Some (target_day y m w n)
 early y m w n l h e₄ =
     let t₂ = every_year_has m 1 && leb w 6 in
     let t₃ = t₂ && leb 1 n in

@@ -1,6 +1,7 @@
 -- The laws of sets of markets: the tests of every number below one, the members of a set, the days on which all of them trade, the check
 -- and the answer.
 -- Assumes nothing.
+use Rattle.std.proofs.Common.{Option, Some, Ok, Err, is_err, option_map}
 use Prim.Native.Nat.{ℕ, zero, suc, ◌+◌, ◌/◌, ◌%◌, ◌^◌, ◌≤◌, ◌<◌}
 use mathlib.Core.Path.{◌≡◌, refl, sym, ap, ◌∙◌}
 use mathlib.Core.Bool.{Bool, true, false, cond, not, ◌&&◌, ◌||◌}
@@ -13,18 +14,16 @@ use native.Mathlib.Omega.{arith}
 use borrow.Author.Tests.{le-leb, lt-ltb, ltb-true, eq-eqb, eqb-true, not-true, not-false}
 use Rattle.gregorian.specs.declared.Date.{Date}
 use Rattle.gregorian.specs.declared.days.CalendarDay.{CalendarDay}
+use Rattle.gregorian.specs.Calendar.{date_of}
 use Rattle.gregorian.specs.Inner.{SameDay}
 use Rattle.gregorian.proofs.Tests.{and_left, and_right}
-use Rattle.utils.specs.declared.OptionalDay.{OptionalDay}
-use Rattle.utils.specs.declared.OptionalDay.TheVariants.{Day}
 use Rattle.markets.specs.Markets.{holidays_by_code, is_market, is_trading_day}
 use Rattle.ranges.specs.Ranges.{days_from, sum_of}
 use Rattle.ranges.proofs.Lists.{test, order, clash}
-use Rattle.error.specs.declared.OptionalDateResult.{OptionalDateResult}
-use Rattle.checks.specs.Checks.{RangeResult, checked_range}
-use Rattle.checks.proofs.CheckLaws.{passed, failed-range}
+use Rattle.checks.specs.Checks.{checked_range}
+use Rattle.checks.proofs.CheckLaws.{passed}
 use Rattle.error.specs.declared.CalendarError.TheVariants.{InvalidMarketSet}
-use Rattle.market_sets.specs.MarketSets.{has_market, is_market_set, all_below, trades_if_member, is_common_trading_day, checked_set_range, found_on}
+use Rattle.market_sets.specs.MarketSets.{has_market, is_market_set, all_below, trades_if_member, is_common_trading_day, checked_set_range}
 
 -- ---- every number below one
 
@@ -188,18 +187,18 @@ module _ (markets : ℕ) (start end : Date) where
   unfolding checked_set_range
   set-passes h = simp h
 
-  pub no-set : is_market_set markets ≡ false → checked_set_range markets start end ≡ RangeResult.Err InvalidMarketSet
+  pub no-set : is_market_set markets ≡ false → checked_set_range markets start end ≡ Err InvalidMarketSet
   unfolding checked_set_range
   no-set h = simp h
 
-  pub set-checked : (a b : ℕ) → checked_set_range markets start end ≡ RangeResult.Ok a b → (is_market_set markets ≡ true) × (checked_range start end ≡ RangeResult.Ok a b)
+  pub set-checked : (a b : ℕ) → checked_set_range markets start end ≡ Ok (a, b) → (is_market_set markets ≡ true) × (checked_range start end ≡ Ok (a, b))
   unfolding checked_set_range
   set-checked a b q =
-      let past₁₂ = passed (failed-range start end) (RangeResult.Ok a b) refl (not (is_market_set markets)) _ _ refl q in
+      let past₁₂ = passed is_err (Ok (a, b)) refl (not (is_market_set markets)) _ _ refl q in
       (not-false (is_market_set markets) past₁₂.0, past₁₂.1)
 
 -- ---- the answer
 
 -- the date of the day that was found
-pub found-on : (r : OptionalDay) (day : CalendarDay) → SameDay day → r ≡ Day day.number → OptionalDateResult.Found day.date ≡ found_on r
-found-on r day s q = ap OptionalDateResult.Found s.same ∙ ap found_on (sym q)
+pub found-on : (r : Option ℕ) (day : CalendarDay) → SameDay day → r ≡ Some day.number → Some day.date ≡ option_map date_of r
+found-on r day s q = ap Some s.same ∙ ap (option_map date_of) (sym q)

@@ -1,12 +1,12 @@
 -- Inner: no exported contract and no claim rests on these. Which of several days the code finds. Assumes nothing.
-use Rattle.std.specs.Prelude.{ℕ}
+use Rattle.std.specs.Prelude.{ℕ, Option, Result}
 use Rattle.gregorian.specs.declared.Date.{Date}
 use Rattle.ranges.specs.Ranges.{days, find}
-use Rattle.error.specs.declared.OptionalDateResult.{OptionalDateResult}
-use Rattle.checks.specs.Checks.{try_range}
+use Rattle.error.specs.Errors.{result_and_then}
 use Rattle.market_sets.specs.MarketSets.{is_common_trading_day, checked_set_range, found_on}
+use Rattle.error.specs.declared.CalendarError.{CalendarError}
 
 -- the first day of the range on which every market of the set trades
-abbrev pub first_common_day_result : ℕ → Date → Date → OptionalDateResult
+abbrev pub first_common_day_result : ℕ → Date → Date → Result (Option Date) CalendarError
 first_common_day_result markets start end =
-    try_range (checked_set_range markets start end) OptionalDateResult.Err (λ a b. found_on (find (is_common_trading_day markets) (days a b)))
+    result_and_then (checked_set_range markets start end) (λ (a, b). found_on (find (is_common_trading_day markets) (days a b)))

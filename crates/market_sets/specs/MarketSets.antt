@@ -1,14 +1,12 @@
 -- Sets of markets, and the days on which all markets of a set trade: docs/SCOPE.md [market-set], [common-day]. A day is its day number.
 -- Assumes nothing.
-use Rattle.std.specs.Prelude.{ℕ, zero, suc, ◌/◌, ◌%◌, ◌^◌, Bool, true, cond, not, ◌&&◌, ◌||◌, ltb, leb, eqb, length}
+use Rattle.std.specs.Prelude.{option_map, ℕ, zero, suc, ◌/◌, ◌%◌, ◌^◌, Bool, true, cond, not, ◌&&◌, ◌||◌, ltb, leb, eqb, length, Option, Result, Ok, Err}
 use Rattle.gregorian.specs.declared.Date.{Date}
 use Rattle.gregorian.specs.Calendar.{date_of}
-use Rattle.utils.specs.declared.OptionalDay.{OptionalDay}
-use Rattle.utils.specs.declared.OptionalDay.TheVariants.{Day, None}
 use Rattle.markets.specs.Markets.{holidays_by_code, is_trading_day}
-use Rattle.error.specs.declared.OptionalDateResult.{OptionalDateResult}
 use Rattle.error.specs.declared.CalendarError.TheVariants.{InvalidMarketSet}
-use Rattle.checks.specs.Checks.{RangeResult, checked_range}
+use Rattle.checks.specs.Checks.{checked_range}
+use Rattle.error.specs.declared.CalendarError.{CalendarError}
 
 -- ---- the set
 
@@ -38,10 +36,9 @@ is_common_trading_day markets n = all_below (length holidays_by_code) (trades_if
 -- ---- the call
 
 -- [common-day]: error 12, and then those of the count's dates, 5, 5 and 1 with the start; or the day numbers of both
-unfoldable pub checked_set_range : ℕ → Date → Date → RangeResult
-checked_set_range markets start end = cond (not (is_market_set markets)) (RangeResult.Err InvalidMarketSet) (checked_range start end)
+unfoldable pub checked_set_range : ℕ → Date → Date → Result (ℕ × ℕ) CalendarError
+checked_set_range markets start end = cond (not (is_market_set markets)) (Err InvalidMarketSet) (checked_range start end)
 
 -- a day by its date
-abbrev pub found_on : OptionalDay → OptionalDateResult
-found_on (Day n) = OptionalDateResult.Found (date_of n)
-found_on None = OptionalDateResult.None
+abbrev pub found_on : Option ℕ → Result (Option Date) CalendarError
+found_on day = Ok (option_map date_of day)

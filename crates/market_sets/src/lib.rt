@@ -1,15 +1,15 @@
 // Sets of markets, and the days on which all markets of a set trade.
 #![tactic(auto)]
 
-ghost use Rattle.std.specs.Prelude.{◌≡◌, ◌≤◌, ◌<◌};
-ghost use Rattle.gregorian.specs.Calendar.{last_day};
+ghost use Rattle.std.specs.Prelude.{◌≡◌, ◌≤◌, ◌<◌, option_map};
+ghost use Rattle.gregorian.specs.Calendar.{last_day, date_of};
 ghost use Rattle.gregorian.specs.Inner.{SameDay};
 ghost use Rattle.ranges.specs.Ranges.{days, find};
-ghost use Rattle.market_sets.specs.MarketSets.{has_market, is_market_set, is_common_trading_day, found_on};
+ghost use Rattle.market_sets.specs.MarketSets.{has_market, is_market_set, is_common_trading_day};
 ghost use Rattle.market_sets.specs.Inner.{first_common_day_result};
 
-use checks::{Check, checked_range};
-use error::{CalendarError, OptionalDateResult};
+use checks::checked_range;
+use error::CalendarError;
 use gregorian::days::{CalendarDay, calendar_day, day_after};
 use gregorian::{Date, day_number, is_date};
 use markets::{LAST_MARKET, is_trading_day};
@@ -39,34 +39,35 @@ fn is_common_trading_day(markets: u8, day: CalendarDay) -> bool
     requires { SameDay day × (day.number ≤ last_day) }
     ensures { result ≡ is_common_trading_day markets day.number }
 {
-    let mut market = 0;
-    while market <= LAST_MARKET {
+    for market in 0..LAST_MARKET + 1 {
         if has_market(markets, market) && !is_trading_day(market, day) {
             return false;
         }
-        market += 1;
     }
     true
 }
 
 // [common-day]: the first such day from the first to the last, both included.
-fn first_common_day(markets: u8, first: CalendarDay, last: u32) -> OptionalDateResult
+fn first_common_day(markets: u8, first: CalendarDay, last: u32) -> Option<Date>
     requires { SameDay first × (last ≤ last_day) }
-    ensures { result ≡ found_on (find (is_common_trading_day markets) (days first.number last)) }
+    ensures { result ≡ option_map date_of (find (is_common_trading_day markets) (days first.number last)) }
 {
     let mut day = first;
     while day.number <= last {
         if is_common_trading_day(markets, day) {
-            let date = day.date;
-            return OptionalDateResult::Found(date);
+            return Some(day.date);
         }
         day = day_after(day);
     }
-    OptionalDateResult::None
+    None
 }
 
 // [common-day]: the first such day from the start to the end, or the first of errors 12, 5 and 1 that applies.
-pub fn common_trading_day(markets: u8, start: Date, end: Date) -> OptionalDateResult
+pub fn common_trading_day(
+    markets: u8,
+    start: Date,
+    end: Date,
+) -> Result<Option<Date>, CalendarError>
     ensures { result ≡ first_common_day_result markets start end }
 {
     let is_set = is_market_set(markets);
@@ -74,14 +75,10 @@ pub fn common_trading_day(markets: u8, start: Date, end: Date) -> OptionalDateRe
     let starts = is_date(start.year, start.month, start.day);
     let ends = is_date(end.year, end.month, end.day);
     if !is_set {
-        return OptionalDateResult::Err(CalendarError::InvalidMarketSet);
+        return Err(CalendarError::InvalidMarketSet);
     }
-    match checked_range(starts, ends, start, end) {
-        Check::Ok => {
-            let first = calendar_day(start.year, start.month, start.day);
-            let last = day_number(end.year, end.month, end.day);
-            first_common_day(markets, first, last)
-        }
-        Check::Err(e) => OptionalDateResult::Err(e),
-    }
+    checked_range(starts, ends, start, end)?;
+    let first = calendar_day(start.year, start.month, start.day);
+    let last = day_number(end.year, end.month, end.day);
+    Ok(first_common_day(markets, first, last))
 }

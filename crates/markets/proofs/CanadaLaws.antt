@@ -1,5 +1,6 @@
 -- The holidays of Canada by their months.
 -- Assumes nothing.
+use Rattle.std.proofs.Common.{None}
 use Prim.Native.Nat.{ℕ, ◌+◌, ◌≤◌}
 use mathlib.Core.Path.{◌≡◌, refl, ap, sym, ◌∙◌}
 use mathlib.Core.Bool.{Bool, true, false, cond, ◌&&◌}
@@ -13,7 +14,6 @@ use Rattle.gregorian.specs.declared.days.CalendarDay.{CalendarDay}
 use Rattle.gregorian.specs.Inner.{SameDay}
 use Rattle.gregorian.proofs.Laws.{days-on}
 use Rattle.gregorian.proofs.Weekdays.{weekday-after}
-use Rattle.utils.specs.declared.OptionalDay.TheVariants.{None}
 use Rattle.utils.specs.Weekday.{nth_weekday_of_month}
 use Rattle.utils.proofs.WeekdayLaws.{last-is}
 use Rattle.rule_days.specs.Days.{contains, is_day, match_weekend}

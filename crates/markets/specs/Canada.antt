@@ -1,14 +1,12 @@
 -- The holidays of TSX, as src/markets/canada/holidays.rs has them: docs/SCOPE.md [tsx-holidays]. Assumes nothing.
-use Rattle.std.specs.Prelude.{ℕ, ◌+◌, cond, ◌&&◌, List, [], leb, eqb, pos}
+use Rattle.std.specs.Prelude.{ℕ, ◌+◌, cond, ◌&&◌, List, [], leb, eqb, pos, Option, None}
 use Rattle.gregorian.specs.Calendar.{monday, friday, saturday, sunday, day_number, weekday_of}
-use Rattle.utils.specs.declared.OptionalDay.{OptionalDay}
-use Rattle.utils.specs.declared.OptionalDay.TheVariants.{None}
 use Rattle.utils.specs.Weekday.{nth_weekday_of_month, last_up_to}
 use Rattle.utils.specs.Easter.{calculate_good_friday}
 use Rattle.rule_days.specs.Days.{insert, insert_day, adjust_for_weekend}
 
 -- `if year >= 2008 { .. }`
-abbrev pub family_day : ℕ → OptionalDay
+abbrev pub family_day : ℕ → Option ℕ
 family_day year = cond (leb 2008 year) (nth_weekday_of_month year 2 monday (pos 3)) None
 
 -- victoria_day: from 24 May, which every year has, back to a Monday

@@ -1,7 +1,6 @@
 -- The holidays of NYSE and NASDAQ, as src/markets/us/holidays.rs has them: docs/SCOPE.md [us-holidays]. Assumes nothing.
-use Rattle.std.specs.Prelude.{ℕ, ◌+◌, ◌-◌, List, [], leb, pos}
+use Rattle.std.specs.Prelude.{ℕ, ◌+◌, ◌-◌, List, [], leb, pos, Option}
 use Rattle.gregorian.specs.Calendar.{monday, thursday, day_number}
-use Rattle.utils.specs.declared.OptionalDay.{OptionalDay}
 use Rattle.utils.specs.Weekday.{nth_weekday_of_month, minus}
 use Rattle.utils.specs.Easter.{calculate_good_friday}
 use Rattle.rule_days.specs.Days.{insert, insert_if, insert_day, match_weekend, adjust_for_weekend}
@@ -10,23 +9,23 @@ use Rattle.rule_days.specs.Days.{insert, insert_if, insert_day, match_weekend, a
 abbrev pub new_years_day : ℕ → ℕ
 new_years_day year = adjust_for_weekend (day_number year 1 1)
 
-abbrev pub mlk_day : ℕ → OptionalDay
+abbrev pub mlk_day : ℕ → Option ℕ
 mlk_day year = nth_weekday_of_month year 1 monday (pos 3)
 
-abbrev pub presidents_day : ℕ → OptionalDay
+abbrev pub presidents_day : ℕ → Option ℕ
 presidents_day year = nth_weekday_of_month year 2 monday (pos 3)
 
-abbrev pub memorial_day : ℕ → OptionalDay
+abbrev pub memorial_day : ℕ → Option ℕ
 memorial_day year = nth_weekday_of_month year 5 monday (minus 1)
 
 -- Saturday -1, Sunday +1
 abbrev pub independence_day : ℕ → ℕ
 independence_day year = let july4 = day_number year 7 4 in match_weekend july4 (july4 - 1) (july4 + 1)
 
-abbrev pub labor_day : ℕ → OptionalDay
+abbrev pub labor_day : ℕ → Option ℕ
 labor_day year = nth_weekday_of_month year 9 monday (pos 1)
 
-abbrev pub thanksgiving_day : ℕ → OptionalDay
+abbrev pub thanksgiving_day : ℕ → Option ℕ
 thanksgiving_day year = nth_weekday_of_month year 11 thursday (pos 4)
 
 abbrev pub juneteenth : ℕ → ℕ

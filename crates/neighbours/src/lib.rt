@@ -13,15 +13,8 @@ use gregorian::days::{CalendarDay, day_after, day_before};
 use markets::is_trading_day;
 use markets::years::{first_day_of, last_day_of};
 
-// The day that a search found, or none.
-#[derive(Clone, Copy)]
-pub enum Neighbour {
-    Found(CalendarDay),
-    None,
-}
-
 // [next]: none if no day after it trades, up to the last that is looked at.
-pub fn next_trading_day(market: u32, day: CalendarDay) -> Neighbour
+pub fn next_trading_day(market: u32, day: CalendarDay) -> Option<CalendarDay>
     requires { SameDay day × (day.number ≤ last_day) }
     ensures { result ≡ neighbour_of (next_trading_day (is_trading_day market) (last_day_of market) day.number) }
 {
@@ -30,14 +23,14 @@ pub fn next_trading_day(market: u32, day: CalendarDay) -> Neighbour
     while next.number < last {
         next = day_after(next);
         if is_trading_day(market, next) {
-            return Neighbour::Found(next);
+            return Some(next);
         }
     }
-    Neighbour::None
+    None
 }
 
 // [previous]: none if no day before it trades, down to the first that is looked at.
-pub fn previous_trading_day(market: u32, day: CalendarDay) -> Neighbour
+pub fn previous_trading_day(market: u32, day: CalendarDay) -> Option<CalendarDay>
     requires { SameDay day × (day.number ≤ last_day) }
     ensures { result ≡ neighbour_of (previous_trading_day (is_trading_day market) (first_day_of market) day.number) }
 {
@@ -46,8 +39,8 @@ pub fn previous_trading_day(market: u32, day: CalendarDay) -> Neighbour
     while first < previous.number {
         previous = day_before(previous);
         if is_trading_day(market, previous) {
-            return Neighbour::Found(previous);
+            return Some(previous);
         }
     }
-    Neighbour::None
+    None
 }

@@ -1,5 +1,6 @@
 -- The call that slices an order: what it returns, and the buffer after it.
 -- Assumes nothing.
+use Rattle.std.proofs.Common.{Result, Ok, Err}
 use Prim.Native.Nat.{ℕ, zero, suc, ◌+◌, ◌-◌, ◌*◌, ◌/◌, ◌%◌, ◌≤◌, ◌<◌}
 use mathlib.Core.Path.{◌≡◌, refl, sym, ap, ◌∙◌, subst}
 use mathlib.Core.Bool.{true}
@@ -19,7 +20,6 @@ use Rattle.ranges.proofs.Counts.{count_none}
 use Rattle.checks.specs.Checks.{checked_room, final_buffer}
 use Rattle.checks.proofs.CheckLaws.{room-enough, room-short}
 use Rattle.range_calls.proofs.CountLaws.{count-of-dates}
-use Rattle.error.specs.declared.CountResult.{CountResult}
 use Rattle.orders.specs.Slices.{slice, slices_of, slices, slice_days, sliced_by, slice_result, slice_buffer}
 use Rattle.orders.proofs.SliceLaws.{no-day-to-slice, some-day, days-checked, tabulate-length, tabulate-entry, one_more, no_more, slices-are}
 use Rattle.orders.proofs.SliceLaws.{whole-order, remainder-less, slice-by-days}
@@ -30,6 +30,7 @@ use Rattle.answers.specs.SliceCall.{slice_order_answer}
 use Rattle.answers.specs.Expected.{counted, not_sliced}
 use Rattle.answers.proofs.AnswerLaws.{counted_is, all-counted, sliced-is, no-day-is, too-few-entries-is, is-error, not-counted, days-counted}
 use Rattle.order_laws.specs.OrderLaws.{Order, count_of, slice_call, buffer_after, Sliced, IsSliced, AllOrderLaws}
+use Rattle.error.specs.declared.CalendarError.{CalendarError}
 
 -- ---- the sum
 
@@ -121,11 +122,11 @@ module _ (o : Order) (buffer : List ℕ) where
   abbrev count : ℕ
   count = (count_of o).count
 
-  abbrev days : CountResult
+  abbrev days : Result ℕ CalendarError
   days = slice_days count (length buffer)
 
   -- What it returns, and the buffer after it, where the count call gives no error, by what its checks came to.
-  module _ (z : (count_of o).error ≡ 0) (d : CountResult) (e : days ≡ d) where
+  module _ (z : (count_of o).error ≡ 0) (d : Result ℕ CalendarError) (e : days ≡ d) where
     by-days : (sliced_by o.quantity d ≡ slice_result o.quantity count buffer) × (final_buffer d (slices o.quantity count) buffer ≡ slice_buffer o.quantity count buffer)
     by-days = slice-by-days o.quantity count buffer d _ _ (sym e) refl refl
 
@@ -144,21 +145,21 @@ module _ (o : Order) (buffer : List ℕ) where
     | no n ↦ by (omega arith) days refl
   ]
     where
-      by : (y : (count_of o).error ≡ 0) (d : CountResult) → days ≡ d → IsSliced o buffer
-      by y (CountResult.Ok n) e =
+      by : (y : (count_of o).error ≡ 0) (d : Result ℕ CalendarError) → days ≡ d → IsSliced o buffer
+      by y (Ok n) e =
           let c = days-checked count (length buffer) n e in
           let per_day = o.quantity / n in
           let remainder = o.quantity % n in
           let less = remainder-less o.quantity n c.one in
           let all = of-order per_day remainder n less buffer c.fit o (all-counted _ y ∙ ap counted (sym c.all)) (whole-order o.quantity n c.one) in
-          let after = left y (CountResult.Ok n) e ∙ ap (λ (k : ℕ). overwrite (slices o.quantity k) buffer) (sym c.all) in (
+          let after = left y (Ok n) e ∙ ap (λ (k : ℕ). overwrite (slices o.quantity k) buffer) (sym c.all) in (
             n,
             per_day,
             remainder,
-            returned y (CountResult.Ok n) e ∙ sliced-is n per_day remainder,
+            returned y (Ok n) e ∙ sliced-is n per_day remainder,
             subst (Sliced o n per_day remainder buffer) (sym after) all,
           )
-      by y (CountResult.Err d) e = absurd (is-error d (ap (λ (a : SliceAnswer). a.error) (sym (returned y (CountResult.Err d) e)) ∙ z))
+      by y (Err d) e = absurd (is-error d (ap (λ (a : SliceAnswer). a.error) (sym (returned y (Err d) e)) ∙ z))
 
   unchanged : ((slice_call o buffer).error ≡ 0 → ⊥) → buffer_after o buffer ≡ buffer
   unchanged n = elim (dec_lt 0 (count_of o).error) [
@@ -166,9 +167,9 @@ module _ (o : Order) (buffer : List ℕ) where
     | no m ↦ by (omega arith) days refl
   ]
     where
-      by : (y : (count_of o).error ≡ 0) (d : CountResult) → days ≡ d → buffer_after o buffer ≡ buffer
-      by y (CountResult.Ok k) e = absurd (n (ap (λ (a : SliceAnswer). a.error) (returned y (CountResult.Ok k) e ∙ sliced-is k (o.quantity / k) (o.quantity % k))))
-      by y (CountResult.Err d) e = left y (CountResult.Err d) e
+      by : (y : (count_of o).error ≡ 0) (d : Result ℕ CalendarError) → days ≡ d → buffer_after o buffer ≡ buffer
+      by y (Ok k) e = absurd (n (ap (λ (a : SliceAnswer). a.error) (returned y (Ok k) e ∙ sliced-is k (o.quantity / k) (o.quantity % k))))
+      by y (Err d) e = left y (Err d) e
 
   -- where the count call counts n days
   module _ (n : ℕ) (p : count_of o ≡ counted n) where

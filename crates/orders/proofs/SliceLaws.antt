@@ -1,5 +1,6 @@
 -- The laws of the slices, and of the checks before them.
 -- Assumes nothing.
+use Rattle.std.proofs.Common.{Result, Ok, Err}
 use Prim.Native.Nat.{ℕ, zero, suc, ◌+◌, ◌-◌, ◌*◌, ◌/◌, ◌%◌, ◌≤◌, ◌<◌}
 use mathlib.Core.Path.{◌≡◌, refl, sym, ap, ap₂, ◌∙◌}
 use mathlib.Core.List.{List, [], ◌∷◌, ◌++◌, append_assoc, append-nil}
@@ -10,18 +11,18 @@ use native.Mathlib.Numerals.{add-one}
 use native.Mathlib.Omega.{arith}
 use native.Mathlib.Decide.{dec_lt}
 use borrow.Author.Tests.{eq-eqb, ne_eqb, lt-ltb, le-ltb}
-use Rattle.error.specs.declared.CountResult.{CountResult}
 use Rattle.error.specs.declared.CalendarError.TheVariants.{NoTradingDayInRange}
 use Rattle.checks.specs.Checks.{checked_room, final_buffer}
 use Rattle.checks.proofs.CheckLaws.{room-checked}
-use Rattle.orders.specs.declared.SliceResult.{SliceResult}
 use Rattle.orders.specs.Slices.{tabulate, slice, slices_of, slices, slice_days, sliced_by, slice_result, slice_buffer}
+use Rattle.error.specs.declared.CalendarError.{CalendarError}
+use Rattle.orders.specs.declared.Slicing.{Slicing}
 
 -- ---- the days
 
 module _ (count room : ℕ) where
   -- error 11
-  pub no-day-to-slice : count ≡ 0 → slice_days count room ≡ CountResult.Err NoTradingDayInRange
+  pub no-day-to-slice : count ≡ 0 → slice_days count room ≡ Err NoTradingDayInRange
   unfolding slice_days
   no-day-to-slice e = simp (eq-eqb count 0 e)
 
@@ -35,7 +36,7 @@ pub record SlicedDays (count room n : ℕ) : Type 0 where
   pub one : 1 ≤ n
   pub fit : n ≤ room
 
-pub days-checked : (count room n : ℕ) → slice_days count room ≡ CountResult.Ok n → SlicedDays count room n
+pub days-checked : (count room n : ℕ) → slice_days count room ≡ Ok n → SlicedDays count room n
 days-checked zero room n q = absurd (let e = sym (no-day-to-slice zero room refl) ∙ q in let z : ◌≡◌ {A = ℕ} 0 1 = cc in omega arith)
 days-checked (suc k) room n q =
     let r = room-checked (suc k) room n (sym (some-day (suc k) room (λ z. omega (arith, z))) ∙ q) in
@@ -106,7 +107,7 @@ module _ (quantity count : ℕ) (one : 1 ≤ count) where
 
 module _ (quantity count : ℕ) (buffer : List ℕ) where
   -- the answer and the final buffer, by what the checks came to
-  pub slice-by-days : (days : CountResult) (r : SliceResult) (final : List ℕ) → days ≡ slice_days count (length buffer) → r ≡ sliced_by quantity days → final ≡ final_buffer days (slices quantity count) buffer
+  pub slice-by-days : (days : Result ℕ CalendarError) (r : Result Slicing CalendarError) (final : List ℕ) → days ≡ slice_days count (length buffer) → r ≡ sliced_by quantity days → final ≡ final_buffer days (slices quantity count) buffer
       → (r ≡ slice_result quantity count buffer) × (final ≡ slice_buffer quantity count buffer)
   unfolding slice_result
-  slice-by-days days r final q p f = (p ∙ ap (sliced_by quantity) q, f ∙ ap (λ (d : CountResult). final_buffer d (slices quantity count) buffer) q)
+  slice-by-days days r final q p f = (p ∙ ap (sliced_by quantity) q, f ∙ ap (λ (d : Result ℕ CalendarError). final_buffer d (slices quantity count) buffer) q)

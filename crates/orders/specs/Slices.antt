@@ -1,9 +1,9 @@
 -- An order sliced over its trading days: docs/SCOPE.md [slices], [slice-order]. Assumes nothing.
-use Rattle.std.specs.Prelude.{ℕ, zero, suc, ◌+◌, ◌/◌, ◌%◌, cond, List, [], ◌∷◌, ◌++◌, eqb, ltb, length}
-use Rattle.error.specs.declared.CountResult.{CountResult}
+use Rattle.std.specs.Prelude.{ℕ, zero, suc, ◌+◌, ◌/◌, ◌%◌, cond, List, [], ◌∷◌, ◌++◌, eqb, ltb, length, Result, Ok, Err}
 use Rattle.error.specs.declared.CalendarError.TheVariants.{NoTradingDayInRange}
 use Rattle.checks.specs.Checks.{checked_room, final_buffer}
-use Rattle.orders.specs.declared.SliceResult.{SliceResult}
+use Rattle.error.specs.declared.CalendarError.{CalendarError}
+use Rattle.orders.specs.declared.Slicing.{Slicing}
 
 -- ---- the slices
 
@@ -27,15 +27,15 @@ slices quantity count = slices_of (quantity / count) (quantity % count) count
 -- ---- over the days counted
 
 -- The number of days: error 11 if there are none, error 9 with their number if there is room for fewer.
-unfoldable pub slice_days : ℕ → ℕ → CountResult
-slice_days count room = cond (eqb count 0) (CountResult.Err NoTradingDayInRange) (checked_room count room)
+unfoldable pub slice_days : ℕ → ℕ → Result ℕ CalendarError
+slice_days count room = cond (eqb count 0) (Err NoTradingDayInRange) (checked_room count room)
 
 -- the days, the shares per day and the remainder
-abbrev pub sliced_by : ℕ → CountResult → SliceResult
-sliced_by quantity (CountResult.Ok n) = SliceResult.Ok n (quantity / n) (quantity % n)
-sliced_by quantity (CountResult.Err e) = SliceResult.Err e
+abbrev pub sliced_by : ℕ → Result ℕ CalendarError → Result Slicing CalendarError
+sliced_by quantity (Ok n) = Ok (record { count = n; per_day = quantity / n; remainder = quantity % n })
+sliced_by quantity (Err e) = Err e
 
-unfoldable pub slice_result : ℕ → ℕ → List ℕ → SliceResult
+unfoldable pub slice_result : ℕ → ℕ → List ℕ → Result Slicing CalendarError
 slice_result quantity count buffer = sliced_by quantity (slice_days count (length buffer))
 
 -- what the buffer holds at the end

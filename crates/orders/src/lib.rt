@@ -6,26 +6,23 @@ ghost use Rattle.buffers.specs.Buffers.{overwrite};
 ghost use Rattle.orders.specs.Slices.{slices_of, slice_days, slice_result, slice_buffer};
 
 use checks::checked_room;
-use error::{CalendarError, CountResult};
+use error::CalendarError;
 
 // How many days the order is sliced over, the shares of each, and how many shares are left, of which the first days carry one each.
 #[derive(Clone, Copy)]
-pub enum SliceResult {
-    Ok {
-        count: u32,
-        per_day: u32,
-        remainder: u32,
-    },
-    Err(CalendarError),
+pub struct Slicing {
+    pub count: u32,
+    pub per_day: u32,
+    pub remainder: u32,
 }
 
 // Errors 11 and 9, or the number of days.
 #[tactic(auto, unfolding(crate::specs::Slices::slice_days))]
-fn slice_days(count: u32, room: usize) -> CountResult
+fn slice_days(count: u32, room: usize) -> Result<u32, CalendarError>
     ensures { result ≡ slice_days count room }
 {
     if count == 0 {
-        return CountResult::Err(CalendarError::NoTradingDayInRange);
+        return Err(CalendarError::NoTradingDayInRange);
     }
     checked_room(count as usize, room)
 }
@@ -41,21 +38,17 @@ fn write_slices(per_day: u32, remainder: usize, count: usize, out: &mut [u32])
 }
 
 // [slice-order], over the days counted: error 11 or 9; or the slices are at the start of the buffer, the rest of which stays.
-pub fn slice_order(quantity: u32, count: u32, out: &mut [u32]) -> SliceResult
+pub fn slice_order(quantity: u32, count: u32, out: &mut [u32]) -> Result<Slicing, CalendarError>
     ensures { (result ≡ slice_result quantity count out.old)
         × (out.new ≡ slice_buffer quantity count out.old) }
 {
-    match slice_days(count, out.len()) {
-        CountResult::Ok(days) => {
-            let per_day = quantity / days;
-            let remainder = quantity % days;
-            write_slices(per_day, remainder as usize, days as usize, out);
-            SliceResult::Ok {
-                count: days,
-                per_day,
-                remainder,
-            }
-        }
-        CountResult::Err(e) => SliceResult::Err(e),
-    }
+    let days = slice_days(count, out.len())?;
+    let per_day = quantity / days;
+    let remainder = quantity % days;
+    write_slices(per_day, remainder as usize, days as usize, out);
+    Ok(Slicing {
+        count: days,
+        per_day,
+        remainder,
+    })
 }

@@ -1,21 +1,21 @@
 -- The laws of the answers of next and previous.
 -- Assumes nothing.
+use Rattle.std.proofs.Common.{Option, Some, None, Result, Ok}
 use Prim.Native.Nat.{ℕ, ◌-◌, ◌≤◌, ◌<◌}
 use mathlib.Core.Path.{◌≡◌, refl, ap, ◌∙◌}
 use mathlib.Core.Bool.{true}
 use borrow.Author.Tests.{lt-ltb, le-ltb}
 use Rattle.gregorian.specs.Calendar.{is_date, day_number}
-use Rattle.utils.specs.declared.OptionalDay.{OptionalDay}
-use Rattle.utils.specs.declared.OptionalDay.TheVariants.{Day, None}
 use Rattle.markets.specs.Markets.{is_market}
-use Rattle.neighbours.specs.declared.Neighbour.{Neighbour}
 use Rattle.neighbours.specs.Inner.{neighbour_of}
-use Rattle.checks.specs.declared.DayResult.{DayResult}
-use Rattle.range_calls.specs.declared.TradingDayResult.{TradingDayResult}
 use Rattle.checks.specs.Checks.{checked_day}
 use Rattle.range_calls.specs.RangeCalls.{distance_of, trading_day, trading_day_result, neighbour_result}
 use Rattle.range_calls.specs.Inner.{result_at}
-use Rattle.checks.proofs.CheckLaws.{past-day, day-passes}
+use Rattle.error.proofs.ErrorLaws.{past-ok}
+use Rattle.checks.proofs.CheckLaws.{day-passes}
+use Rattle.error.specs.declared.CalendarError.{CalendarError}
+use Rattle.range_calls.specs.declared.TradingDay.{TradingDay}
+use Rattle.gregorian.specs.declared.days.CalendarDay.{CalendarDay}
 
 -- The distance to a later day, and to an earlier one.
 module _ (n m r : ℕ) where
@@ -28,19 +28,19 @@ module _ (n m r : ℕ) where
   to-earlier h e = simp (le-ltb n m h) e
 
 -- The answer from a day that is given with its date.
-pub result-is : (year n : ℕ) (o : OptionalDay) → result_at year n (neighbour_of o) ≡ trading_day_result year n o
+pub result-is : (year n : ℕ) (o : Option ℕ) → result_at year n (neighbour_of o) ≡ trading_day_result year n o
 unfolding trading_day_result trading_day
-result-is year n (Day m) = refl
+result-is year n (Some m) = refl
 result-is year n None = refl
 
 -- The answer of either call: that to the neighbour of the day past the checks.
-pub neighbour-is : (neighbour : ℕ → OptionalDay) (market year month day n : ℕ) (o : Neighbour) (r : TradingDayResult)
-    → DayResult.Ok n ≡ checked_day market year month day → o ≡ neighbour_of (neighbour n) → r ≡ result_at year n o
+pub neighbour-is : (neighbour : ℕ → Option ℕ) (market year month day n : ℕ) (o : Option CalendarDay) (r : Result TradingDay CalendarError)
+    → Ok n ≡ checked_day market year month day → o ≡ neighbour_of (neighbour n) → r ≡ result_at year n o
     → r ≡ neighbour_result neighbour market year month day
 neighbour-is neighbour market year month day n o r q e f =
-    past-day TradingDayResult.Err (λ n. trading_day_result year n (neighbour n)) _ n r q (f ∙ ap (result_at year n) e ∙ result-is year n (neighbour n))
+    past-ok (λ n. trading_day_result year n (neighbour n)) _ n r q (f ∙ ap (result_at year n) e ∙ result-is year n (neighbour n))
 
 -- What a call answers on a date.
-pub neighbour-of-date : (neighbour : ℕ → OptionalDay) (market year month day : ℕ) → is_market market ≡ true → is_date year month day ≡ true
+pub neighbour-of-date : (neighbour : ℕ → Option ℕ) (market year month day : ℕ) → is_market market ≡ true → is_date year month day ≡ true
     → neighbour_result neighbour market year month day ≡ trading_day_result year (day_number year month day) (neighbour (day_number year month day))
 neighbour-of-date neighbour market year month day h d = simp (day-passes market year month day h d)

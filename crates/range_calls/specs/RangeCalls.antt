@@ -1,18 +1,16 @@
 -- The calls of src/calendar.rs about ranges of days, on numbers: docs/SCOPE.md [next], [previous], [month-list], [count], [errors].
 -- Assumes nothing.
-use Rattle.std.specs.Prelude.{ℕ, ◌-◌, cond, not, ◌||◌, List, ltb, length}
+use Rattle.std.specs.Prelude.{ℕ, ◌-◌, cond, not, ◌||◌, List, ltb, length, Option, Some, None, Result, Ok, Err}
 use Rattle.gregorian.specs.Calendar.{date, date_of}
-use Rattle.utils.specs.declared.OptionalDay.{OptionalDay}
-use Rattle.utils.specs.declared.OptionalDay.TheVariants.{Day, None}
 use Rattle.markets.specs.Markets.{is_market, is_trading_day}
 use Rattle.markets.specs.Years.{is_supported, first_day_of, last_day_of}
 use Rattle.ranges.specs.Ranges.{next_trading_day, previous_trading_day, count_trading_days}
 use Rattle.trading_days.specs.Month.{month_list}
-use Rattle.error.specs.declared.CountResult.{CountResult}
 use Rattle.error.specs.declared.CalendarError.TheVariants.{UnknownMarket, NoTradingDayFound}
 use Rattle.range_calls.specs.declared.TradingDay.{TradingDay}
-use Rattle.range_calls.specs.declared.TradingDayResult.{TradingDayResult}
-use Rattle.checks.specs.Checks.{checked_day, try_day, checked_month, try_month, checked_range, try_range, checked_room, final_buffer}
+use Rattle.checks.specs.Checks.{checked_day, checked_month, checked_range, checked_room, final_buffer}
+use Rattle.error.specs.Errors.{result_and_then}
+use Rattle.error.specs.declared.CalendarError.{CalendarError}
 
 -- ---- next and previous
 
@@ -26,29 +24,29 @@ trading_day year n m =
     record { date = date_of m; distance = distance_of n m; outside = not (is_supported year) || not (is_supported (date_of m).year) }
 
 -- error 6 where there is none
-unfoldable pub trading_day_result : ℕ → ℕ → OptionalDay → TradingDayResult
-trading_day_result year n (Day m) = TradingDayResult.Ok (trading_day year n m)
-trading_day_result year n None = TradingDayResult.Err NoTradingDayFound
+unfoldable pub trading_day_result : ℕ → ℕ → Option ℕ → Result TradingDay CalendarError
+trading_day_result year n (Some m) = Ok (trading_day year n m)
+trading_day_result year n None = Err NoTradingDayFound
 
 -- errors 8 and 5, and then the neighbour of the day
-abbrev pub neighbour_result : (ℕ → OptionalDay) → ℕ → ℕ → ℕ → ℕ → TradingDayResult
+abbrev pub neighbour_result : (ℕ → Option ℕ) → ℕ → ℕ → ℕ → ℕ → Result TradingDay CalendarError
 neighbour_result neighbour market year month day =
-    try_day (checked_day market year month day) TradingDayResult.Err (λ n. trading_day_result year n (neighbour n))
+    result_and_then (checked_day market year month day) (λ n. trading_day_result year n (neighbour n))
 
 -- next_trading_day
-abbrev pub next_trading_day_result : ℕ → ℕ → ℕ → ℕ → TradingDayResult
+abbrev pub next_trading_day_result : ℕ → ℕ → ℕ → ℕ → Result TradingDay CalendarError
 next_trading_day_result market = neighbour_result (next_trading_day (is_trading_day market) (last_day_of market)) market
 
 -- previous_trading_day
-abbrev pub previous_trading_day_result : ℕ → ℕ → ℕ → ℕ → TradingDayResult
+abbrev pub previous_trading_day_result : ℕ → ℕ → ℕ → ℕ → Result TradingDay CalendarError
 previous_trading_day_result market = neighbour_result (previous_trading_day (is_trading_day market) (first_day_of market)) market
 
 -- ---- the list of a month
 
 -- trading_days_in_month: errors 8, 1, 2 and 9
-unfoldable pub trading_days_in_month_result : ℕ → ℕ → ℕ → List ℕ → CountResult
+unfoldable pub trading_days_in_month_result : ℕ → ℕ → ℕ → List ℕ → Result ℕ CalendarError
 trading_days_in_month_result market year month buffer =
-    try_month (checked_month market year month) CountResult.Err (checked_room (length (month_list market year month)) (length buffer))
+    result_and_then (checked_month market year month) (λ _. checked_room (length (month_list market year month)) (length buffer))
 
 abbrev pub trading_days_in_month_buffer : ℕ → ℕ → ℕ → List ℕ → List ℕ
 trading_days_in_month_buffer market year month buffer =
@@ -57,8 +55,8 @@ trading_days_in_month_buffer market year month buffer =
 -- ---- the count
 
 -- count_trading_days: error 8, then those of `checked_range`, 5, 5 and 1, the last with the start
-abbrev pub count_trading_days_result : ℕ → ℕ → ℕ → ℕ → ℕ → ℕ → ℕ → CountResult
+abbrev pub count_trading_days_result : ℕ → ℕ → ℕ → ℕ → ℕ → ℕ → ℕ → Result ℕ CalendarError
 count_trading_days_result market start_year start_month start_day end_year end_month end_day =
-    cond (not (is_market market)) (CountResult.Err UnknownMarket)
-    (try_range (checked_range (date start_year start_month start_day) (date end_year end_month end_day)) CountResult.Err
-    (λ start end. CountResult.Ok (count_trading_days (is_trading_day market) start end)))
+    cond (not (is_market market)) (Err UnknownMarket)
+    (result_and_then (checked_range (date start_year start_month start_day) (date end_year end_month end_day))
+    (λ (start, end). Ok (count_trading_days (is_trading_day market) start end)))

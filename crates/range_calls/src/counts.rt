@@ -5,39 +5,38 @@ ghost use Rattle.trading_days.specs.Month.{month_list};
 ghost use Rattle.checks.specs.Checks.{checked_room, final_buffer};
 ghost use Rattle.range_calls.specs.RangeCalls.{trading_days_in_month_result, trading_days_in_month_buffer, count_trading_days_result};
 
-use checks::{Check, checked_month, checked_range, checked_room};
-use error::{CalendarError, CountResult};
+use checks::{checked_month, checked_range, checked_room};
+use error::CalendarError;
 use gregorian::days::calendar_day;
 use gregorian::{Date, day_number, is_date};
 use trading_days::LONGEST_MONTH;
 
 // The list of a month that is past its check: how many days were written, or error 9.
-fn write_days(market: u32, year: u32, month: u32, out: &mut [u8]) -> CountResult
+fn write_days(market: u32, year: u32, month: u32, out: &mut [u8]) -> Result<u32, CalendarError>
     requires { is_date year month 1 ≡ true }
     ensures { (result ≡ checked_room (length (month_list market year month)) (length out.old))
         × (out.new ≡ final_buffer result (month_list market year month) out.old) }
 {
     let mut days = [0; LONGEST_MONTH];
     let count = trading_days::month_days(market, year, month, &mut days);
-    match checked_room(count, out.len()) {
-        CountResult::Ok(n) => {
-            buffers::write(&days[0..count], out);
-            CountResult::Ok(n)
-        }
-        CountResult::Err(e) => CountResult::Err(e),
-    }
+    let n = checked_room(count, out.len())?;
+    buffers::write(&days[..count], out);
+    Ok(n)
 }
 
 // [month-list]: how many days were written, or the first of errors 8, 1, 2 and 9 that applies.
 #[tactic(auto, unfolding(crate::specs::RangeCalls::trading_days_in_month_result))]
-pub fn trading_days_in_month(market: u32, year: u32, month: u32, out: &mut [u8]) -> CountResult
+pub fn trading_days_in_month(
+    market: u32,
+    year: u32,
+    month: u32,
+    out: &mut [u8],
+) -> Result<u32, CalendarError>
     ensures { (result ≡ trading_days_in_month_result market year month out.old)
         × (out.new ≡ trading_days_in_month_buffer market year month out.old) }
 {
-    match checked_month(market, year, month) {
-        Check::Ok => write_days(market, year, month, out),
-        Check::Err(e) => CountResult::Err(e),
-    }
+    checked_month(market, year, month)?;
+    write_days(market, year, month, out)
 }
 
 // [count]: how many days trade from the start to the end, or the first of errors 8, 5 and 1 that applies.
@@ -49,7 +48,7 @@ pub fn count_trading_days(
     end_year: u32,
     end_month: u32,
     end_day: u32,
-) -> CountResult
+) -> Result<u32, CalendarError>
     ensures { result ≡ count_trading_days_result market start_year start_month start_day end_year end_month end_day }
 {
     let is_market = markets::is_market(market);
@@ -67,14 +66,10 @@ pub fn count_trading_days(
     let starts = is_date(start_year, start_month, start_day);
     let ends = is_date(end_year, end_month, end_day);
     if !is_market {
-        return CountResult::Err(CalendarError::UnknownMarket);
+        return Err(CalendarError::UnknownMarket);
     }
-    match checked_range(starts, ends, start, end) {
-        Check::Ok => {
-            let first = calendar_day(start_year, start_month, start_day);
-            let last = day_number(end_year, end_month, end_day);
-            CountResult::Ok(trading_days::count(market, first, last))
-        }
-        Check::Err(e) => CountResult::Err(e),
-    }
+    checked_range(starts, ends, start, end)?;
+    let first = calendar_day(start_year, start_month, start_day);
+    let last = day_number(end_year, end_month, end_day);
+    Ok(trading_days::count(market, first, last))
 }

@@ -7,12 +7,11 @@ ghost use Rattle.std.specs.Prelude.{◌≡◌};
 ghost use Rattle.range_calls.specs.RangeCalls.{distance_of, next_trading_day_result, previous_trading_day_result};
 ghost use Rattle.range_calls.specs.Inner.{trading_day_at, result_at};
 
-use checks::{DayResult, checked_day};
+use checks::checked_day;
 use error::CalendarError;
 use gregorian::Date;
 use gregorian::days::CalendarDay;
 use markets::years::is_supported;
-use neighbours::Neighbour;
 
 // The answer of next and previous: its distance in days from the date given [distance], and whether either date is outside 2020
 // to 2030 [outside].
@@ -21,12 +20,6 @@ pub struct TradingDay {
     pub date: Date,
     pub distance: u32,
     pub outside: bool,
-}
-
-#[derive(Clone, Copy)]
-pub enum TradingDayResult {
-    Ok(TradingDay),
-    Err(CalendarError),
 }
 
 // [distance]
@@ -50,39 +43,43 @@ fn trading_day(year: u32, n: u32, neighbour: CalendarDay) -> TradingDay
 }
 
 // Error 6 where no day was found.
-fn trading_day_result(year: u32, n: u32, neighbour: Neighbour) -> TradingDayResult
+fn trading_day_result(
+    year: u32,
+    n: u32,
+    neighbour: Option<CalendarDay>,
+) -> Result<TradingDay, CalendarError>
     ensures { result ≡ result_at year n neighbour }
 {
-    match neighbour {
-        Neighbour::Found(day) => TradingDayResult::Ok(trading_day(year, n, day)),
-        Neighbour::None => TradingDayResult::Err(CalendarError::NoTradingDayFound),
-    }
+    let day = neighbour.ok_or(CalendarError::NoTradingDayFound)?;
+    Ok(trading_day(year, n, day))
 }
 
 // [next]
-pub fn next_trading_day(market: u32, year: u32, month: u32, day: u32) -> TradingDayResult
+pub fn next_trading_day(
+    market: u32,
+    year: u32,
+    month: u32,
+    day: u32,
+) -> Result<TradingDay, CalendarError>
     ensures { result ≡ next_trading_day_result market year month day }
 {
-    match checked_day(market, year, month, day) {
-        DayResult::Ok(n) => {
-            let date = Date { year, month, day };
-            let from = CalendarDay { number: n, date };
-            trading_day_result(year, n, neighbours::next_trading_day(market, from))
-        }
-        DayResult::Err(e) => TradingDayResult::Err(e),
-    }
+    let number = checked_day(market, year, month, day)?;
+    let date = Date { year, month, day };
+    let from = CalendarDay { number, date };
+    trading_day_result(year, number, neighbours::next_trading_day(market, from))
 }
 
 // [previous]
-pub fn previous_trading_day(market: u32, year: u32, month: u32, day: u32) -> TradingDayResult
+pub fn previous_trading_day(
+    market: u32,
+    year: u32,
+    month: u32,
+    day: u32,
+) -> Result<TradingDay, CalendarError>
     ensures { result ≡ previous_trading_day_result market year month day }
 {
-    match checked_day(market, year, month, day) {
-        DayResult::Ok(n) => {
-            let date = Date { year, month, day };
-            let from = CalendarDay { number: n, date };
-            trading_day_result(year, n, neighbours::previous_trading_day(market, from))
-        }
-        DayResult::Err(e) => TradingDayResult::Err(e),
-    }
+    let number = checked_day(market, year, month, day)?;
+    let date = Date { year, month, day };
+    let from = CalendarDay { number, date };
+    trading_day_result(year, number, neighbours::previous_trading_day(market, from))
 }

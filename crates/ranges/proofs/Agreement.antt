@@ -1,5 +1,6 @@
 -- Where runs of non-trading days are short, every way to the trading days of a range gives the same.
 -- Assumes nothing.
+use Rattle.std.proofs.Common.{None}
 use Prim.Native.Nat.{ℕ, suc, ◌+◌, ◌-◌, ◌≤◌}
 use mathlib.Core.Path.{◌≡◌, sym, ◌∙◌}
 use mathlib.Core.Bool.{Bool}
@@ -7,7 +8,6 @@ use mathlib.Core.List.{reverse}
 use lib.Dec.{leb}
 use native.Mathlib.Omega.{arith}
 use borrow.Author.Tests.{leb-true}
-use Rattle.utils.specs.declared.OptionalDay.TheVariants.{None}
 use Rattle.ranges.specs.Ranges.{trading_days, next_trading_day, previous_trading_day}
 use Rattle.ranges.specs.Steps.{NextStep, PreviousStep, ShortRuns, ShortSteps}
 use Rattle.ranges.specs.Agreement.{AgreementTo, AgreementToEnds, Agreement, Agree, AgreeInside}

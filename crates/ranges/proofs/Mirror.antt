@@ -1,11 +1,11 @@
 -- The days up to day c in the mirror, day i at c - i: there the previous trading day is the next one.
 -- Assumes nothing.
+use Rattle.std.proofs.Common.{option_map}
 use Prim.Native.Nat.{ℕ, suc, ◌+◌, ◌-◌, ◌≤◌, ◌<◌}
 use mathlib.Core.Path.{◌≡◌, sym, ap, ◌∙◌}
 use mathlib.Core.Bool.{Bool, true}
 use mathlib.Core.Logic.{⊎_elim}
 use native.Mathlib.Omega.{arith}
-use Rattle.utils.specs.Weekday.{map_day}
 use Rattle.ranges.specs.Ranges.{days, find, next_trading_day, previous_trading_day}
 use Rattle.ranges.specs.Steps.{NextStep, PreviousStep, ShortRuns}
 use Rattle.ranges.proofs.Lists.{order, between-length, days-mirror}
@@ -24,15 +24,15 @@ module _ (trades : ℕ → Bool) (c : ℕ) where
   trades-mirrored i h e = let same : c - (c - i) ≡ i = omega arith in ap trades same ∙ e
 
   module _ (first : ℕ) (o : 1 ≤ first) where
-    pub previous-mirror : (n : ℕ) → n ≤ c → previous_trading_day trades first n ≡ map_day (λ i. c - i) (next_trading_day mirrored (c - first) (c - n))
+    pub previous-mirror : (n : ℕ) → n ≤ c → previous_trading_day trades first n ≡ option_map (λ i. c - i) (next_trading_day mirrored (c - first) (c - n))
     previous-mirror n h =
         ⊎_elim
         (λ (l : n ≤ first).
-        previous-none trades first n o l ∙ sym (ap (map_day (λ i. c - i)) (next-none mirrored (c - first) (c - n) (omega arith))))
+        previous-none trades first n o l ∙ sym (ap (option_map (λ i. c - i)) (next-none mirrored (c - first) (c - n) (omega arith))))
         (λ (l : first < n).
         ap (find trades) (days-mirror first (n - 1) c (omega arith) (omega arith) (omega arith))
         ∙ find-map trades (λ i. c - i) (days (c - (n - 1)) (c - first))
-        ∙ ap (λ (x : ℕ). map_day (λ i. c - i) (find mirrored (days x (c - first)))) (omega arith))
+        ∙ ap (λ (x : ℕ). option_map (λ i. c - i) (find mirrored (days x (c - first)))) (omega arith))
         (order n first)
 
     -- A next call in the mirror is a previous call.
@@ -41,7 +41,7 @@ module _ (trades : ℕ → Bool) (c : ℕ) where
         let up = s.2.ordered in
         let to = (is-first mirrored (suc (c - n)) m (c - first) s.0).0 in
         let down : c - m < n = omega arith in (
-          previous-mirror n h ∙ ap (map_day (λ i. c - i)) s.0,
+          previous-mirror n h ∙ ap (option_map (λ i. c - i)) s.0,
           s.1,
           record {
             ordered = down;

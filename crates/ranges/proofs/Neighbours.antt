@@ -1,11 +1,11 @@
 -- The laws of the next and the previous trading day for the loops: one day of the search.
 -- Assumes nothing.
+use Rattle.std.proofs.Common.{Some, None}
 use Prim.Native.Nat.{ℕ, suc, ◌+◌, ◌-◌, ◌≤◌, ◌<◌}
 use mathlib.Core.Path.{◌≡◌, ap, ◌∙◌}
 use mathlib.Core.Bool.{Bool, true, false}
 use mathlib.Core.List.{List, ◌∷◌, reverse}
 use native.Mathlib.Omega.{arith}
-use Rattle.utils.specs.declared.OptionalDay.TheVariants.{Day, None}
 use Rattle.ranges.specs.Ranges.{days, found, find, next_trading_day, previous_trading_day}
 use Rattle.ranges.proofs.Lists.{days-none, days-next, days-last}
 use Rattle.ranges.proofs.Search.{find_none, find_first}
@@ -21,7 +21,7 @@ module _ (trades : ℕ → Bool) where
         let one : suc m ≡ m + 1 = omega arith in
         find_first trades (days (suc m) last) (m + 1) (days (suc (m + 1)) last) (days-next (suc m) last h ∙ ap (λ (i : ℕ). i ∷ days (suc i) last) one) t e
 
-    pub next-found : m < last → trades (m + 1) ≡ true → next_trading_day trades last m ≡ Day (m + 1)
+    pub next-found : m < last → trades (m + 1) ≡ true → next_trading_day trades last m ≡ Some (m + 1)
     next-found h e = next-day h true e
 
     pub next-passed : m < last → trades (m + 1) ≡ false → next_trading_day trades last m ≡ next_trading_day trades last (m + 1)
@@ -36,7 +36,7 @@ module _ (trades : ℕ → Bool) where
     previous-day h t e =
         find_first trades (reverse (days first (m - 1))) (m - 1) (reverse (days first (m - 1 - 1))) (days-last first (m - 1) (omega arith) (omega arith)) t e
 
-    pub previous-found : first < m → trades (m - 1) ≡ true → previous_trading_day trades first m ≡ Day (m - 1)
+    pub previous-found : first < m → trades (m - 1) ≡ true → previous_trading_day trades first m ≡ Some (m - 1)
     previous-found h e = previous-day h true e
 
     pub previous-passed : first < m → trades (m - 1) ≡ false → previous_trading_day trades first m ≡ previous_trading_day trades first (m - 1)

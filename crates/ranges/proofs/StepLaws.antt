@@ -1,6 +1,7 @@
 -- What the next and the previous call answer: the trading day on that side with none between. So each undoes the other, and where
 -- runs are short, few days are passed. What previous answers is what next answers in the mirror.
 -- Assumes nothing.
+use Rattle.std.proofs.Common.{Option, Some, None, option_map}
 use Prim.Native.Nat.{ℕ, suc, ◌-◌, ◌≤◌, ◌<◌}
 use mathlib.Core.Path.{◌≡◌, refl, sym, ap, ◌∙◌}
 use mathlib.Core.Bool.{Bool, true, false}
@@ -8,9 +9,6 @@ use mathlib.Core.Logic.{⊎_elim}
 use lib.ListN.{length}
 use native.Mathlib.Omega.{arith}
 use Rattle.gregorian.specs.Calendar.{first_day, last_day}
-use Rattle.utils.specs.declared.OptionalDay.{OptionalDay}
-use Rattle.utils.specs.declared.OptionalDay.TheVariants.{Day, None}
-use Rattle.utils.specs.Weekday.{map_day}
 use Rattle.utils.specs.Inner.{InYears}
 use Rattle.ranges.specs.Ranges.{days_between, next_trading_day, previous_trading_day, SomeTradingDay}
 use Rattle.ranges.specs.Steps.{NextStep, PreviousStep, ShortRuns, ShortSteps, StepsAreShort, StepsUndo}
@@ -22,8 +20,8 @@ use Rattle.ranges.proofs.Mirror.{mirrored, previous-mirror}
 -- ---- what a call answers
 
 -- a day that was mapped
-mapped : (f : ℕ → ℕ) (o : OptionalDay) (m : ℕ) → map_day f o ≡ Day m → (k : ℕ) × (o ≡ Day k) × (f k ≡ m)
-mapped f (Day k) m e = (k, refl, same-day (f k) m e)
+mapped : (f : ℕ → ℕ) (o : Option ℕ) (m : ℕ) → option_map f o ≡ Some m → (k : ℕ) × (o ≡ Some k) × (f k ≡ m)
+mapped f (Some k) m e = (k, refl, same-day (f k) m e)
 mapped f None m e = absurd (no-day m e)
 
 module _ (trades : ℕ → Bool) where
@@ -34,21 +32,21 @@ module _ (trades : ℕ → Bool) where
     pub non-trading : (i : ℕ) → earlier < i → i < later → trades i ≡ false
 
   module _ (last n m : ℕ) where
-    pub next-is : next_trading_day trades last n ≡ Day m → (m ≤ last) × Beside m n m
+    pub next-is : next_trading_day trades last n ≡ Some m → (m ≤ last) × Beside m n m
     next-is e =
         let r = is-first trades (suc n) m last e in
         let f = r.1 in
         (r.0, record { trading = f.trading; ordered = f.from; non-trading = f.non-trading })
 
-    pub next-by : m ≤ last → Beside m n m → next_trading_day trades last n ≡ Day m
+    pub next-by : m ≤ last → Beside m n m → next_trading_day trades last n ≡ Some m
     next-by h b = finds trades (suc n) m last h (record { from = b.ordered; trading = b.trading; non-trading = b.non-trading })
 
   module _ (first n m : ℕ) (o : 1 ≤ first) where
     -- in the mirror on day n
-    here : previous_trading_day trades first n ≡ map_day (λ i. n - i) (next_trading_day (mirrored trades n) (n - first) (n - n))
+    here : previous_trading_day trades first n ≡ option_map (λ i. n - i) (next_trading_day (mirrored trades n) (n - first) (n - n))
     here = previous-mirror trades n first o n (omega arith)
 
-    pub previous-is : previous_trading_day trades first n ≡ Day m → (first ≤ m) × Beside m m n
+    pub previous-is : previous_trading_day trades first n ≡ Some m → (first ≤ m) × Beside m m n
     previous-is e =
         let r = mapped (λ i. n - i) (next_trading_day (mirrored trades n) (n - first) (n - n)) m (sym here ∙ e) in
         let k : ℕ = r.0 in
@@ -64,35 +62,35 @@ module _ (trades : ℕ → Bool) where
           },
         )
 
-    pub previous-by : first ≤ m → Beside m m n → previous_trading_day trades first n ≡ Day m
+    pub previous-by : first ≤ m → Beside m m n → previous_trading_day trades first n ≡ Some m
     previous-by h b =
         let back : n - (n - m) ≡ m = omega (arith, b.ordered) in
         here
-        ∙ ap (map_day (λ i. n - i))
+        ∙ ap (option_map (λ i. n - i))
         (finds (mirrored trades n) (suc (n - n)) (n - m) (n - first) (omega arith)
         (record {
           from = omega (arith, b.ordered);
           trading = ap trades back ∙ b.trading;
           non-trading = λ i x y. b.non-trading (n - i) (omega arith) (omega arith);
         }))
-        ∙ ap Day back
+        ∙ ap Some back
 
   -- Where a day trades that the call looks at, it answers.
-  pub previous-one : (first n w : ℕ) → 1 ≤ first → first ≤ w → w < n → trades w ≡ true → (m : ℕ) × (previous_trading_day trades first n ≡ Day m)
+  pub previous-one : (first n w : ℕ) → 1 ≤ first → first ≤ w → w < n → trades w ≡ true → (m : ℕ) × (previous_trading_day trades first n ≡ Some m)
   previous-one first n w o l h t =
       let same : n - (n - w) ≡ w = omega arith in
       let r = finds-one (mirrored trades n) (suc (n - n)) (n - w) (n - first) (omega arith) (omega arith) (ap trades same ∙ t) in
       from-mirror r.0 r.2
     where
-      from-mirror : (k : ℕ) → next_trading_day (mirrored trades n) (n - first) (n - n) ≡ Day k → (m : ℕ) × (previous_trading_day trades first n ≡ Day m)
-      from-mirror k e = (n - k, previous-mirror trades n first o n (omega arith) ∙ ap (map_day (λ i. n - i)) e)
+      from-mirror : (k : ℕ) → next_trading_day (mirrored trades n) (n - first) (n - n) ≡ Some k → (m : ℕ) × (previous_trading_day trades first n ≡ Some m)
+      from-mirror k e = (n - k, previous-mirror trades n first o n (omega arith) ∙ ap (option_map (λ i. n - i)) e)
 
   -- The last trading day of a range is one of its trading days, and there is none only where no day trades.
   pub last_some : (a b : ℕ) → 1 ≤ a → SomeTradingDay trades a b (previous_trading_day trades a (suc b))
   last_some a b o = by (previous_trading_day trades a (suc b)) refl
     where
-      by : (d : OptionalDay) → previous_trading_day trades a (suc b) ≡ d → SomeTradingDay trades a b d
-      by (Day n) e = let r = previous-is a (suc b) n o e in (r.0, omega (arith, r.1.ordered), r.1.trading)
+      by : (d : Option ℕ) → previous_trading_day trades a (suc b) ≡ d → SomeTradingDay trades a b d
+      by (Some n) e = let r = previous-is a (suc b) n o e in (r.0, omega (arith, r.1.ordered), r.1.trading)
       by None e = λ n l h.
           ⊎_elim (λ (t : trades n ≡ true). let r = previous-one a (suc b) n o l (omega arith) t in absurd (no-day r.0 (sym e ∙ r.1))) (λ t. t)
           (test (trades n))
@@ -100,8 +98,8 @@ module _ (trades : ℕ → Bool) where
 -- ---- what follows of it
 
 -- The answers are days of years 1 to 9999.
-in-years : (o : OptionalDay) → ((m : ℕ) → o ≡ Day m → (first_day ≤ m) × (m ≤ last_day)) → InYears o
-in-years (Day m) h = h m refl
+in-years : (o : Option ℕ) → ((m : ℕ) → o ≡ Some m → (first_day ≤ m) × (m ≤ last_day)) → InYears o
+in-years (Some m) h = h m refl
 in-years None h = tt
 
 pub next-in-years : (trades : ℕ → Bool) (last n : ℕ) → last ≤ last_day → InYears (next_trading_day trades last n)
@@ -150,13 +148,13 @@ module _ (trades : ℕ → Bool) (most first last : ℕ) (runs : ShortRuns trade
         non-trading = b.non-trading;
       }
 
-  pub next-is-short : (n m : ℕ) → first ≤ suc n → next_trading_day trades last n ≡ Day m → NextStep trades most last n m
+  pub next-is-short : (n m : ℕ) → first ≤ suc n → next_trading_day trades last n ≡ Some m → NextStep trades most last n m
   next-is-short n m l e =
       let r = next-is trades last n m e in
       (e, r.1.trading, few m n m l (omega (arith, r.0)) r.1)
 
   module _ (o : 1 ≤ first) where
-    previous-is-short : (n m : ℕ) → n ≤ suc last → previous_trading_day trades first n ≡ Day m → PreviousStep trades most first n m
+    previous-is-short : (n m : ℕ) → n ≤ suc last → previous_trading_day trades first n ≡ Some m → PreviousStep trades most first n m
     previous-is-short n m h e =
         let r = previous-is trades first n m o e in
         (e, r.1.trading, few m m n (omega (arith, r.0)) h r.1)

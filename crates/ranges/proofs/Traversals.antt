@@ -1,5 +1,6 @@
 -- Traversals: any, and the two of a range. The backward one is the forward one in the mirror.
 -- Assumes nothing.
+use Rattle.std.proofs.Common.{Some, None, option_map}
 use Prim.Native.Nat.{ℕ, zero, suc, ◌+◌, ◌-◌, ◌≤◌, ◌<◌}
 use mathlib.Core.Path.{◌≡◌, refl, sym, ap, ap₂, ◌∙◌, subst, subst₂}
 use mathlib.Core.Bool.{Bool, true, false}
@@ -8,8 +9,6 @@ use mathlib.Core.List.{List, [], ◌∷◌, map, map-id, reverse}
 use lib.Dec.{leb}
 use native.Mathlib.Omega.{arith}
 use borrow.Author.Tests.{leb-true, le-leb, lt-leb}
-use Rattle.utils.specs.declared.OptionalDay.TheVariants.{Day, None}
-use Rattle.utils.specs.Weekday.{map_day}
 use Rattle.ranges.specs.Ranges.{trading_days, next_trading_day, previous_trading_day}
 use Rattle.ranges.specs.Steps.{NextStep, PreviousStep, ShortRuns}
 use Rattle.ranges.specs.Traversals.{TraversalTo, EndsOutside, Traversal, TraversalOf, EndsOutsideOrNone}
@@ -82,13 +81,13 @@ module _ (trades : ℕ → Bool) (most first last : ℕ) (runs : ShortRuns trade
   forward-from : (k n : ℕ) → first ≤ suc n → n ≤ b → b < n + k → Forward n (trading_days trades (suc n) b)
   forward-from zero n g h l = absurd (omega arith)
   forward-from (suc k) n g h l =
-      ⊎_elim none (λ (r : (m : ℕ) × (next_trading_day trades last n ≡ Day m)). some r.0 r.1 (forward-from k r.0))
+      ⊎_elim none (λ (r : (m : ℕ) × (next_trading_day trades last n ≡ Some m)). some r.0 r.1 (forward-from k r.0))
       (none-or-day (next_trading_day trades last n))
     where
       none : next_trading_day trades last n ≡ None → Forward n (trading_days trades (suc n) b)
       none e = subst (Forward n) (sym (all-fail trades (suc n) b (λ i x y. none-trades trades (suc n) last e i x (omega arith)))) (inr e)
 
-      some : (m : ℕ) → next_trading_day trades last n ≡ Day m → (first ≤ suc m → m ≤ b → b < m + k → Forward m (trading_days trades (suc m) b))
+      some : (m : ℕ) → next_trading_day trades last n ≡ Some m → (first ≤ suc m → m ≤ b → b < m + k → Forward m (trading_days trades (suc m) b))
           → Forward n (trading_days trades (suc n) b)
       some m e rest =
           let c = next-is-short trades most first last runs n m g e in
@@ -146,8 +145,8 @@ module _ (trades : ℕ → Bool) (most first last : ℕ) (o : 1 ≤ first) (runs
       (λ e.
       let same : c - (c - n) ≡ n = omega arith in
       inr (previous-mirror trades c first o (c - n) (omega arith)
-      ∙ ap (λ (i : ℕ). map_day (λ j. c - j) (next_trading_day (mirrored trades c) (c - first) i)) same
-      ∙ ap (map_day (λ j. c - j)) e))
+      ∙ ap (λ (i : ℕ). option_map (λ j. c - j) (next_trading_day (mirrored trades c) (c - first) i)) same
+      ∙ ap (option_map (λ j. c - j)) e))
 
   pub backward : TraversalTo Out (λ m. leb a m) OutEnds (suc b) (reverse (trading_days trades a b))
   backward =

@@ -1,7 +1,6 @@
 -- The claim over any rule of which days trade: where runs of non-trading days are short, the ways to the trading days of a range agree.
 -- docs/SCOPE.md [agreement] is this for the calls. Assumes nothing.
-use Rattle.std.specs.Prelude.{ℕ, suc, ◌+◌, ◌-◌, ◌≤◌, ◌≡◌, Bool, ◌&&◌, List, [], ◌∷◌, reverse, leb, length}
-use Rattle.utils.specs.declared.OptionalDay.TheVariants.{None}
+use Rattle.std.specs.Prelude.{ℕ, suc, ◌+◌, ◌-◌, ◌≤◌, ◌≡◌, Bool, ◌&&◌, List, [], ◌∷◌, reverse, leb, length, None}
 use Rattle.ranges.specs.Ranges.{filter, trading_days, next_trading_day, previous_trading_day, count_trading_days, sum_of, joined}
 use Rattle.ranges.specs.Traversals.{TraversalTo, EndsOutside, TraversalOf, EndsOutsideOrNone}
 use Rattle.ranges.specs.Steps.{NextStep, PreviousStep, ShortRuns}

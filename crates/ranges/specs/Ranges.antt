@@ -1,8 +1,6 @@
 -- The trading days of a date range and the ways to them: docs/SCOPE.md [next], [previous], [count], [agreement], [common-day]. A
 -- day is its day number; `trades` is any rule of which days trade. Assumes nothing.
-use Rattle.std.specs.Prelude.{ℕ, zero, suc, ◌+◌, ◌-◌, ◌≤◌, ◌≡◌, Bool, true, false, List, [], ◌∷◌, ◌++◌, reverse}
-use Rattle.utils.specs.declared.OptionalDay.{OptionalDay}
-use Rattle.utils.specs.declared.OptionalDay.TheVariants.{Day, None}
+use Rattle.std.specs.Prelude.{ℕ, zero, suc, ◌+◌, ◌-◌, ◌≤◌, ◌≡◌, Bool, true, false, List, [], ◌∷◌, ◌++◌, reverse, Option, Some, None}
 
 -- ---- the trading days of a range
 
@@ -41,28 +39,28 @@ trading_days trades a b = filter trades (days a b)
 -- ---- the neighbouring trading days
 
 -- day n if the test holds, or else what the rest of the search finds
-abbrev pub found : Bool → ℕ → OptionalDay → OptionalDay
-found true n rest = Day n
+abbrev pub found : Bool → ℕ → Option ℕ → Option ℕ
+found true n rest = Some n
 found false n rest = rest
 
 -- the first of the days that trades
-unfoldable pub find : (ℕ → Bool) → List ℕ → OptionalDay
+unfoldable pub find : (ℕ → Bool) → List ℕ → Option ℕ
 find trades [] = None
 find trades (n ∷ ds) = found (trades n) n (find trades ds)
 
 -- [next]: the first that trades of the days after n, up to the last of all
-abbrev pub next_trading_day : (ℕ → Bool) → ℕ → ℕ → OptionalDay
+abbrev pub next_trading_day : (ℕ → Bool) → ℕ → ℕ → Option ℕ
 next_trading_day trades last n = find trades (days (suc n) last)
 
 -- [previous]: the last that trades of the days before n, down to the first of all
-abbrev pub previous_trading_day : (ℕ → Bool) → ℕ → ℕ → OptionalDay
+abbrev pub previous_trading_day : (ℕ → Bool) → ℕ → ℕ → Option ℕ
 previous_trading_day trades first n = find trades (reverse (days first (n - 1)))
 
 -- ---- any trading day of a range
 
 -- [common-day]: a day from a to b that trades, or none exactly if there is no such day. Which of several it is, is left free.
-abbrev pub SomeTradingDay : (ℕ → Bool) → ℕ → ℕ → OptionalDay → Type 0
-SomeTradingDay trades a b (Day n) = (a ≤ n) × (n ≤ b) × (trades n ≡ true)
+abbrev pub SomeTradingDay : (ℕ → Bool) → ℕ → ℕ → Option ℕ → Type 0
+SomeTradingDay trades a b (Some n) = (a ≤ n) × (n ≤ b) × (trades n ≡ true)
 SomeTradingDay trades a b None = (n : ℕ) → a ≤ n → n ≤ b → trades n ≡ false
 
 -- ---- the count, day by day

@@ -1,5 +1,6 @@
 -- The laws of lists of days, of the day of an answer, and of the days that every year has.
 -- Assumes nothing.
+use Rattle.std.proofs.Common.{Option, Some, None}
 use Prim.Native.Nat.{ℕ, ◌+◌, ◌-◌, ◌≤◌}
 use mathlib.Core.Path.{◌≡◌, refl, ap, sym, ◌∙◌}
 use mathlib.Core.Bool.{Bool, true, false, cond, ◌&&◌, ◌||◌}
@@ -13,8 +14,6 @@ use Rattle.gregorian.specs.Calendar.{saturday, sunday, weekday_of, month_lengths
 use Rattle.gregorian.proofs.Tests.{and_left, and_right}
 use Rattle.gregorian.proofs.Total.{upto}
 use Rattle.gregorian.proofs.Laws.{date-by}
-use Rattle.utils.specs.declared.OptionalDay.{OptionalDay}
-use Rattle.utils.specs.declared.OptionalDay.TheVariants.{Day, None}
 use Rattle.utils.specs.Weekday.{nth_weekday_of_month}
 use Rattle.utils.proofs.WeekdayLaws.{nth-weekday, weekday-is}
 use Rattle.rule_days.specs.Days.{contains, insert, insert_if, insert_day, is_day, match_weekend, adjust_for_weekend}
@@ -47,17 +46,17 @@ unfolding insert_if
 contains-if ds true d n = contains-insert ds d n
 contains-if ds false d n = sym (or-false (contains ds n))
 
-pub contains-day : (ds : List ℕ) (r : OptionalDay) (n : ℕ) → contains (insert_day ds r) n ≡ (contains ds n || is_day r n)
+pub contains-day : (ds : List ℕ) (r : Option ℕ) (n : ℕ) → contains (insert_day ds r) n ≡ (contains ds n || is_day r n)
 unfolding insert_day
-contains-day ds (Day d) n = contains-insert ds d n
+contains-day ds (Some d) n = contains-insert ds d n
 contains-day ds None n = sym (or-false (contains ds n))
 
 -- whether n is the day of an answer
-pub day-is : (r : OptionalDay) (d n : ℕ) → Day d ≡ r → eqb n d ≡ is_day r n
-day-is r d n e = ap (λ (o : OptionalDay). is_day o n) e
+pub day-is : (r : Option ℕ) (d n : ℕ) → Some d ≡ r → eqb n d ≡ is_day r n
+day-is r d n e = ap (λ (o : Option ℕ). is_day o n) e
 
-pub none_is : (r : OptionalDay) (n : ℕ) → None ≡ r → false ≡ is_day r n
-none_is r n e = ap (λ (o : OptionalDay). is_day o n) e
+pub none_is : (r : Option ℕ) (n : ℕ) → None ≡ r → false ≡ is_day r n
+none_is r n e = ap (λ (o : Option ℕ). is_day o n) e
 
 -- A day that is not between two others is not one that is.
 pub not-between : (first last d n : ℕ) → first ≤ d → d ≤ last → is_between first last n ≡ false → false ≡ eqb n d
@@ -71,8 +70,8 @@ not-between first last d n l u e = by (eqb n d) refl
     by false q = refl
 
 -- The answer of a rule that names a weekday is that weekday, and so no other day.
-other-weekday : (r : OptionalDay) (w n : ℕ) → ((d : ℕ) → r ≡ Day d → weekday_of d ≡ w) → (weekday_of n ≡ w → ⊥) → false ≡ is_day r n
-other-weekday (Day d) w n h k = sym (ne_eqb n d (λ q. k (ap weekday_of q ∙ h d refl)))
+other-weekday : (r : Option ℕ) (w n : ℕ) → ((d : ℕ) → r ≡ Some d → weekday_of d ≡ w) → (weekday_of n ≡ w → ⊥) → false ≡ is_day r n
+other-weekday (Some d) w n h k = sym (ne_eqb n d (λ q. k (ap weekday_of q ∙ h d refl)))
 other-weekday None w n h k = refl
 
 pub not-nth : (y m w : ℕ) (k : ℤ) (n : ℕ) → (weekday_of n ≡ w → ⊥) → false ≡ is_day (nth_weekday_of_month y m w k) n

@@ -1,5 +1,6 @@
 -- A holiday of another month is not this day: so a day is tested by the rules of its month alone.
 -- Assumes nothing.
+use Rattle.std.proofs.Common.{Option, Some, None, option_map}
 use Prim.Native.Nat.{ℕ, ◌+◌, ◌-◌, ◌≤◌}
 use mathlib.Core.Path.{◌≡◌, refl, ap, sym, ◌∙◌}
 use mathlib.Core.Bool.{Bool, true, false, cond, not, ◌&&◌, ◌||◌}
@@ -16,9 +17,7 @@ use Rattle.gregorian.specs.Inner.{Exists, SameDay}
 use Rattle.gregorian.proofs.Tests.{and_left, and_right, every, every-at}
 use Rattle.gregorian.proofs.Laws.{days-on, is-date, by_number}
 use Rattle.gregorian.proofs.DaySteps.{is-date-of, number_is}
-use Rattle.utils.specs.declared.OptionalDay.{OptionalDay}
-use Rattle.utils.specs.declared.OptionalDay.TheVariants.{Day, None}
-use Rattle.utils.specs.Weekday.{map_day, nth_weekday_of_month}
+use Rattle.utils.specs.Weekday.{nth_weekday_of_month}
 use Rattle.utils.proofs.WeekdayLaws.{nth-weekday}
 use Rattle.utils.specs.Easter.{easter, calculate_easter, calculate_good_friday, calculate_easter_monday}
 use Rattle.utils.proofs.EasterLaws.{easter-range, easter-found}
@@ -73,8 +72,8 @@ in-range first last n t away e = by (is_between first last n) refl
     by false q = absurd (let z = away q ∙ e in let k : ◌≡◌ {A = ℕ} 0 1 = cc in omega arith)
 
 -- the day of an answer
-the-day : (r : OptionalDay) (n : ℕ) → is_day r n ≡ true → r ≡ Day n
-the-day (Day d) n e = ap Day (sym (eqb-true n d e))
+the-day : (r : Option ℕ) (n : ℕ) → is_day r n ≡ true → r ≡ Some n
+the-day (Some d) n e = ap Some (sym (eqb-true n d e))
 the-day None n e = cc
 
 -- What is known of a day of a month, from day a to day b.
@@ -170,9 +169,9 @@ module _ (day : CalendarDay) (s : SameDay day) (h : day.number ≤ last_day) whe
   ]
 
   -- Good Friday and Easter Monday are around Easter,
-  beside-easter : (f : ℕ → ℕ) → (easter y ≤ f (easter y) + 2) × (f (easter y) ≤ easter y + 1) → is_day (map_day f (calculate_easter y)) n ≡ true → is_around_easter day.date ≡ true
+  beside-easter : (f : ℕ → ℕ) → (easter y ≤ f (easter y) + 2) × (f (easter y) ≤ easter y + 1) → is_day (option_map f (calculate_easter y)) n ≡ true → is_around_easter day.date ≡ true
   beside-easter f k e =
-      let found = ap (λ (o : OptionalDay). is_day (map_day f o) n) (easter-found y year-range.0 year-range.1) in
+      let found = ap (λ (o : Option ℕ). is_day (option_map f o) n) (easter-found y year-range.0 year-range.1) in
       let q = eqb-true n (f (easter y)) (sym found ∙ e) in
       around (omega (arith, q, k, easter-range y, days-on y 3 20 2)) (omega (arith, q, k, easter-range y, days-on y 4 25 1))
 

@@ -1,9 +1,7 @@
 -- Lists of days in the place of the Rust's HashSet<NaiveDate>, and the move that most markets share: docs/SCOPE.md
 -- [weekend-moves]. A day is its day number. Assumes nothing.
-use Rattle.std.specs.Prelude.{ℕ, ◌+◌, Bool, false, cond, ◌||◌, List, [], ◌∷◌, ◌++◌, eqb}
+use Rattle.std.specs.Prelude.{ℕ, ◌+◌, Bool, false, cond, ◌||◌, List, [], ◌∷◌, ◌++◌, eqb, Option, Some, None}
 use Rattle.gregorian.specs.Calendar.{saturday, sunday, weekday_of}
-use Rattle.utils.specs.declared.OptionalDay.{OptionalDay}
-use Rattle.utils.specs.declared.OptionalDay.TheVariants.{Day, None}
 
 -- `holidays.contains(&n)`
 unfoldable pub contains : List ℕ → ℕ → Bool
@@ -19,13 +17,13 @@ unfoldable pub insert_if : List ℕ → Bool → ℕ → List ℕ
 insert_if holidays test n = cond test (insert holidays n) holidays
 
 -- `if let Some(n) = day { holidays.insert(n) }`, and `if let Ok(n)` for Good Friday and Easter Monday
-unfoldable pub insert_day : List ℕ → OptionalDay → List ℕ
-insert_day holidays (Day n) = insert holidays n
+unfoldable pub insert_day : List ℕ → Option ℕ → List ℕ
+insert_day holidays (Some n) = insert holidays n
 insert_day holidays None = holidays
 
 -- day n is the answer
-abbrev pub is_day : OptionalDay → ℕ → Bool
-is_day (Day d) n = eqb n d
+abbrev pub is_day : Option ℕ → ℕ → Bool
+is_day (Some d) n = eqb n d
 is_day None n = false
 
 -- `match n.weekday() { Sat => s, Sun => t, _ => n }`

@@ -13,7 +13,7 @@ ghost use Rattle.rule_days.specs.Inner.{is_between, is_around_easter};
 use gregorian::days::CalendarDay;
 use gregorian::{Date, SATURDAY, SUNDAY};
 use utils::easter::calculate_good_friday;
-use utils::{OptionalDay, nth_weekday_of_month};
+use utils::nth_weekday_of_month;
 
 // Day d of the month.
 pub fn fixed_day(day: CalendarDay, month: u32, d: u32) -> u32
@@ -57,11 +57,11 @@ pub fn is_observed(day: CalendarDay, month: u32, d: u32) -> bool
 
 // The nth weekday of a month of the day's year, from its end where nth is below 0, for a day on that weekday. For another it is not
 // computed, and none.
-pub fn nth_weekday_for(day: CalendarDay, month: u32, weekday: u32, nth: i32) -> OptionalDay
+pub fn nth_weekday_for(day: CalendarDay, month: u32, weekday: u32, nth: i32) -> Option<u32>
     ensures { is_day result day.number ≡ is_day (nth_weekday_of_month day.date.year month weekday nth) day.number }
 {
     if gregorian::weekday(day.number) != weekday {
-        return OptionalDay::None;
+        return None;
     }
     nth_weekday_of_month(day.date.year, month, weekday, nth)
 }
@@ -80,7 +80,7 @@ pub fn is_good_friday(day: CalendarDay) -> bool
     if !is_around_easter(day.date) {
         return false;
     }
-    let OptionalDay::Day(good_friday) = calculate_good_friday(day.date.year) else {
+    let Some(good_friday) = calculate_good_friday(day.date.year) else {
         return false;
     };
     day.number == good_friday

@@ -1,5 +1,6 @@
 -- The laws of sessions and hours: what each case comes to.
 -- Assumes nothing.
+use Rattle.std.proofs.Common.{Option, Some, Ok, Err}
 use Prim.Native.Nat.{ℕ, ◌≤◌, ◌<◌}
 use mathlib.Core.Path.{◌≡◌, ap, sym, ◌∙◌}
 use mathlib.Core.Bool.{Bool, true, false, ◌&&◌, ◌||◌}
@@ -10,9 +11,7 @@ use borrow.Author.Tests.{lt-ltb, le-ltb, le-leb, lt-leb}
 use Rattle.gregorian.proofs.Tests.{and-false}
 use Rattle.error.specs.declared.CalendarError.TheVariants.{InvalidTime}
 use Rattle.schedule.specs.declared.Session.{Session}
-use Rattle.schedule.specs.declared.OptionalTime.{OptionalTime}
 use Rattle.schedule.specs.declared.TradingHours.{TradingHours}
-use Rattle.schedule.specs.declared.HoursResult.{HoursResult}
 use Rattle.schedule.specs.Schedule.{contains, may_contain, is_reached, market_close, is_regular_at, is_after_hours_at, set_early_close, with_early_close}
 
 from-or-before : (a b t : ℕ) → a ≤ b → (leb a t || ltb t b) ≡ true
@@ -46,17 +45,17 @@ module _ (hours : TradingHours) (t : ℕ) where
   never-regular h = from-and-before hours.regular.start (market_close hours) t h
 
   -- An early close is refused unless it is before the regular end.
-  pub late-close : hours.regular.end ≤ t → HoursResult.Err InvalidTime ≡ with_early_close hours t
+  pub late-close : hours.regular.end ≤ t → Err InvalidTime ≡ with_early_close hours t
   unfolding with_early_close
   late-close h = simp (le-leb hours.regular.end t h)
 
-  pub early-close : t < hours.regular.end → HoursResult.Ok (set_early_close hours (OptionalTime.Some t)) ≡ with_early_close hours t
+  pub early-close : t < hours.regular.end → Ok (set_early_close hours (Some t)) ≡ with_early_close hours t
   unfolding with_early_close
   early-close h = simp (lt-leb hours.regular.end t h)
 
   -- After-hours do not count before an early close.
-  pub not-before-early-close : (close : ℕ) → hours.early_close ≡ OptionalTime.Some close → t < close → is_after_hours_at hours t ≡ false
+  pub not-before-early-close : (close : ℕ) → hours.early_close ≡ Some close → t < close → is_after_hours_at hours t ≡ false
   not-before-early-close close e h =
-      ap (λ (o : OptionalTime). may_contain hours.after_hours t && is_reached o t) e
+      ap (λ (o : Option ℕ). may_contain hours.after_hours t && is_reached o t) e
       ∙ ap (λ (b : Bool). may_contain hours.after_hours t && b) (lt-leb close t h)
       ∙ and-false (may_contain hours.after_hours t)

@@ -1,21 +1,17 @@
 -- The hours of each market, as the mod.rs of src/markets have them, with the seconds of src/constants.rs: docs/SCOPE.md
 -- [hours], [trading-hours], [early-close]. Assumes nothing.
-use Rattle.std.specs.Prelude.{ℕ, ◌+◌, ◌≡◌, Bool, cond, not, ◌&&◌, ◌||◌, List, [], ◌∷◌, eqb, length, get_or}
+use Rattle.std.specs.Prelude.{ℕ, ◌+◌, ◌≡◌, Bool, cond, not, ◌&&◌, ◌||◌, List, [], ◌∷◌, eqb, length, get_or, Option, Some, None, option_map}
 use Rattle.gregorian.specs.declared.Date.{Date}
 use Rattle.gregorian.specs.Calendar.{number}
-use Rattle.utils.specs.declared.OptionalDay.{OptionalDay}
-use Rattle.utils.specs.Weekday.{map_day}
 use Rattle.rule_days.specs.Days.{is_day}
 use Rattle.markets.specs.Markets.{holidays_by_code, is_weekend}
 use Rattle.markets.specs.Us.{thanksgiving_day}
-use Rattle.schedule.specs.declared.OptionalSession.{OptionalSession}
-use Rattle.schedule.specs.declared.OptionalTime.{OptionalTime}
 use Rattle.schedule.specs.declared.TradingHours.{TradingHours}
 use Rattle.schedule.specs.Schedule.{session, set_early_close, hours_new}
 
 -- the day after Thanksgiving
-abbrev pub black_friday : ℕ → OptionalDay
-black_friday year = map_day (λ n. n + 1) (thanksgiving_day year)
+abbrev pub black_friday : ℕ → Option ℕ
+black_friday year = option_map (λ n. n + 1) (thanksgiving_day year)
 
 -- USMarket::is_early_close_day: the day after Thanksgiving; 3 July if the 4th is a weekday; 24 December on a weekday
 unfoldable pub is_early_close_day : Date → Bool
@@ -28,7 +24,7 @@ is_early_close_day date =
 -- 9:30 to 16:00, pre-market from 4:00, after-hours from the time given to 20:00
 abbrev pub us_hours : ℕ → Date → TradingHours
 us_hours after_hours date =
-    hours_new date (session 34200 57600) (OptionalSession.Some (session 14400 34200)) (OptionalSession.Some (session after_hours 72000))
+    hours_new date (session 34200 57600) (Some (session 14400 34200)) (Some (session after_hours 72000))
 
 -- after-hours from 16:00, the regular end
 abbrev pub us_regular_hours : Date → TradingHours
@@ -36,7 +32,7 @@ us_regular_hours = us_hours 57600
 
 -- the regular hours, with after-hours from 13:00 and an early close then
 abbrev pub us_early_hours : Date → TradingHours
-us_early_hours date = set_early_close (us_hours 46800 date) (OptionalTime.Some 46800)
+us_early_hours date = set_early_close (us_hours 46800 date) (Some 46800)
 
 -- USMarket::trading_hours
 unfoldable pub us_trading_hours : Date → TradingHours
@@ -44,7 +40,7 @@ us_trading_hours date = cond (is_early_close_day date) (us_early_hours date) (us
 
 -- no session before or after, no early close
 abbrev pub regular_hours : ℕ → ℕ → Date → TradingHours
-regular_hours start end date = hours_new date (session start end) OptionalSession.None OptionalSession.None
+regular_hours start end date = hours_new date (session start end) None None
 
 -- LSEMarket::trading_hours: 8:00 to 16:30
 abbrev pub lse_trading_hours : Date → TradingHours

@@ -1,14 +1,11 @@
 -- Sessions and trading hours, as src/schedule.rs has them, on any numbers: docs/SCOPE.md [hours-record], [session-new] to
 -- [is-open-at]. Assumes nothing.
-use Rattle.std.specs.Prelude.{ℕ, Bool, true, false, cond, ◌&&◌, ◌||◌, ltb, leb, eqb}
+use Rattle.std.specs.Prelude.{unwrap_or, is_some, ℕ, Bool, true, false, cond, ◌&&◌, ◌||◌, ltb, leb, eqb, Option, Some, None, Result, Ok, Err}
 use Rattle.gregorian.specs.declared.Date.{Date}
 use Rattle.error.specs.declared.CalendarError.TheVariants.{InvalidSession, InvalidTime}
 use Rattle.schedule.specs.declared.Session.{Session}
-use Rattle.schedule.specs.declared.SessionResult.{SessionResult}
-use Rattle.schedule.specs.declared.OptionalSession.{OptionalSession}
-use Rattle.schedule.specs.declared.OptionalTime.{OptionalTime}
 use Rattle.schedule.specs.declared.TradingHours.{TradingHours}
-use Rattle.schedule.specs.declared.HoursResult.{HoursResult}
+use Rattle.error.specs.declared.CalendarError.{CalendarError}
 
 abbrev pub session : ℕ → ℕ → Session
 session start end = record { start = start; end = end }
@@ -18,8 +15,8 @@ abbrev pub no_session : Session
 no_session = session 0 0
 
 -- Session::new
-unfoldable pub session_new : ℕ → ℕ → SessionResult
-session_new start end = cond (eqb end start) (SessionResult.Err InvalidSession) (SessionResult.Ok (session start end))
+unfoldable pub session_new : ℕ → ℕ → Result Session CalendarError
+session_new start end = cond (eqb end start) (Err InvalidSession) (Ok (session start end))
 
 -- Session::contains; the second case is a session over midnight, or equal ends
 unfoldable pub contains : Session → ℕ → Bool
@@ -29,27 +26,17 @@ contains s time =
     (leb s.start time || ltb time s.end)
 
 -- `if let Some(ref s) = session { if s.contains(time) { .. } }`
-abbrev pub may_contain : OptionalSession → ℕ → Bool
-may_contain (OptionalSession.Some s) time = contains s time
-may_contain OptionalSession.None time = false
+abbrev pub may_contain : Option Session → ℕ → Bool
+may_contain (Some s) time = contains s time
+may_contain None time = false
 
 -- `if let Some(early_close) = early_close { if time >= early_close { .. } } else { .. }`
-abbrev pub is_reached : OptionalTime → ℕ → Bool
-is_reached (OptionalTime.Some close) time = leb close time
-is_reached OptionalTime.None time = true
-
--- `early_close.unwrap_or(end)`
-abbrev pub unwrap_or : OptionalTime → ℕ → ℕ
-unwrap_or (OptionalTime.Some time) end = time
-unwrap_or OptionalTime.None end = end
-
--- `early_close.is_some()`
-abbrev pub is_some : OptionalTime → Bool
-is_some (OptionalTime.Some time) = true
-is_some OptionalTime.None = false
+abbrev pub is_reached : Option ℕ → ℕ → Bool
+is_reached (Some close) time = leb close time
+is_reached None time = true
 
 -- the hours with this early close
-abbrev pub set_early_close : TradingHours → OptionalTime → TradingHours
+abbrev pub set_early_close : TradingHours → Option ℕ → TradingHours
 set_early_close hours time =
     record {
       date = hours.date;
@@ -60,14 +47,14 @@ set_early_close hours time =
     }
 
 -- TradingHours::new
-abbrev pub hours_new : Date → Session → OptionalSession → OptionalSession → TradingHours
+abbrev pub hours_new : Date → Session → Option Session → Option Session → TradingHours
 hours_new date regular pre after =
-    record { date = date; pre_market = pre; regular = regular; after_hours = after; early_close = OptionalTime.None }
+    record { date = date; pre_market = pre; regular = regular; after_hours = after; early_close = None }
 
 -- TradingHours::with_early_close
-unfoldable pub with_early_close : TradingHours → ℕ → HoursResult
+unfoldable pub with_early_close : TradingHours → ℕ → Result TradingHours CalendarError
 with_early_close hours time =
-    cond (leb hours.regular.end time) (HoursResult.Err InvalidTime) (HoursResult.Ok (set_early_close hours (OptionalTime.Some time)))
+    cond (leb hours.regular.end time) (Err InvalidTime) (Ok (set_early_close hours (Some time)))
 
 -- TradingHours::is_early_close
 abbrev pub is_early_close : TradingHours → Bool

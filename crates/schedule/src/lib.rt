@@ -8,7 +8,7 @@ pub mod us;
 ghost use Rattle.std.specs.Prelude.{◌≡◌, true, ◌&&◌, ltb, leb};
 ghost use Rattle.gregorian.specs.declared.Date.{Date};
 ghost use Rattle.gregorian.specs.Calendar.{is_date_of};
-ghost use Rattle.schedule.specs.Schedule.{session_new, contains, may_contain, is_reached};
+ghost use Rattle.schedule.specs.Schedule.{session_new, contains};
 ghost use Rattle.schedule.specs.Schedule.{hours_new, with_early_close, is_early_close, market_close, is_open_at};
 ghost use Rattle.schedule.specs.MarketHours.{regular_hours, trading_hours};
 
@@ -24,23 +24,16 @@ pub struct Session {
     pub end: u32,
 }
 
-// In the place of the Rust's Result<Session>.
-#[derive(Clone, Copy)]
-pub enum SessionResult {
-    Ok(Session),
-    Err(CalendarError),
-}
-
 impl Session {
     // [session-new]: an end before the start means a session over midnight.
     #[tactic(auto, unfolding(crate::specs::Schedule::session_new))]
-    pub fn new(start: u32, end: u32) -> SessionResult
+    pub fn new(start: u32, end: u32) -> Result<Self, CalendarError>
         ensures { result ≡ session_new start end }
     {
         if end == start {
-            return SessionResult::Err(CalendarError::InvalidSession);
+            return Err(CalendarError::InvalidSession);
         }
-        SessionResult::Ok(Session { start, end })
+        Ok(Session { start, end })
     }
 
     // [contains]
@@ -56,59 +49,14 @@ impl Session {
     }
 }
 
-// In the place of the Rust's Option<Session>.
-#[derive(Clone, Copy)]
-pub enum OptionalSession {
-    Some(Session),
-    None,
-}
-
-impl OptionalSession {
-    // Whether there is a session, and it contains the time.
-    fn contains(self, time: u32) -> bool
-        ensures { result ≡ may_contain self time }
-    {
-        match self {
-            OptionalSession::Some(session) => session.contains(time),
-            OptionalSession::None => false,
-        }
-    }
-}
-
-// In the place of the Rust's Option<NaiveTime>.
-#[derive(Clone, Copy)]
-pub enum OptionalTime {
-    Some(u32),
-    None,
-}
-
-impl OptionalTime {
-    // Whether the time is not before this one, if there is one.
-    fn is_reached(self, time: u32) -> bool
-        ensures { result ≡ is_reached self time }
-    {
-        match self {
-            OptionalTime::Some(early_close) => early_close <= time,
-            OptionalTime::None => true,
-        }
-    }
-}
-
 // [hours-record]
 #[derive(Clone, Copy)]
 pub struct TradingHours {
     pub date: Date,
-    pub pre_market: OptionalSession,
+    pub pre_market: Option<Session>,
     pub regular: Session,
-    pub after_hours: OptionalSession,
-    pub early_close: OptionalTime,
-}
-
-// In the place of the Rust's Result<TradingHours>.
-#[derive(Clone, Copy)]
-pub enum HoursResult {
-    Ok(TradingHours),
-    Err(CalendarError),
+    pub after_hours: Option<Session>,
+    pub early_close: Option<u32>,
 }
 
 impl TradingHours {
@@ -116,8 +64,8 @@ impl TradingHours {
     pub fn new(
         date: Date,
         regular: Session,
-        pre_market: OptionalSession,
-        after_hours: OptionalSession,
+        pre_market: Option<Session>,
+        after_hours: Option<Session>,
     ) -> Self
         ensures { result ≡ hours_new date regular pre_market after_hours }
     {
@@ -126,28 +74,21 @@ impl TradingHours {
             pre_market,
             regular,
             after_hours,
-            early_close: OptionalTime::None,
+            early_close: None,
         }
     }
 
     // [with-early-close]
     #[tactic(auto, unfolding(crate::specs::Schedule::with_early_close))]
-    pub fn with_early_close(self, early_close: u32) -> HoursResult
+    pub fn with_early_close(self, early_close: u32) -> Result<Self, CalendarError>
         ensures { result ≡ with_early_close self early_close }
     {
-        let regular = self.regular;
-        if regular.end <= early_close {
-            return HoursResult::Err(CalendarError::InvalidTime);
+        if self.regular.end <= early_close {
+            return Err(CalendarError::InvalidTime);
         }
-        let date = self.date;
-        let pre_market = self.pre_market;
-        let after_hours = self.after_hours;
-        HoursResult::Ok(TradingHours {
-            date,
-            pre_market,
-            regular,
-            after_hours,
-            early_close: OptionalTime::Some(early_close),
+        Ok(TradingHours {
+            early_close: Some(early_close),
+            ..self
         })
     }
 
@@ -155,23 +96,14 @@ impl TradingHours {
     pub fn is_early_close(self) -> bool
         ensures { result ≡ is_early_close self }
     {
-        let early_close = self.early_close;
-        match early_close {
-            OptionalTime::Some(_) => true,
-            OptionalTime::None => false,
-        }
+        self.early_close.is_some()
     }
 
     // [market-close]
     pub fn market_close(self) -> u32
         ensures { result ≡ market_close self }
     {
-        let early_close = self.early_close;
-        let regular = self.regular;
-        match early_close {
-            OptionalTime::Some(time) => time,
-            OptionalTime::None => regular.end,
-        }
+        self.early_close.unwrap_or(self.regular.end)
     }
 
     // [is-open-at]: the regular hours are not tested by `contains`.
@@ -179,13 +111,18 @@ impl TradingHours {
     pub fn is_open_at(self, time: u32) -> bool
         ensures { result ≡ is_open_at self time }
     {
-        let pre_market = self.pre_market;
-        let regular = self.regular;
-        let after_hours = self.after_hours;
-        let early_close = self.early_close;
-        pre_market.contains(time)
-            | ((regular.start <= time) & (time < self.market_close()))
-            | (after_hours.contains(time) & early_close.is_reached(time))
+        let is_pre_market = self
+            .pre_market
+            .is_some_and(|session| session.contains(time));
+        let is_after_hours = self
+            .after_hours
+            .is_some_and(|session| session.contains(time));
+        let is_reached = self
+            .early_close
+            .is_none_or(|early_close| early_close <= time);
+        is_pre_market
+            | ((self.regular.start <= time) & (time < self.market_close()))
+            | (is_after_hours & is_reached)
     }
 }
 
@@ -193,12 +130,7 @@ impl TradingHours {
 fn regular_hours(date: Date, start: u32, end: u32) -> TradingHours
     ensures { result ≡ regular_hours start end date }
 {
-    TradingHours::new(
-        date,
-        Session { start, end },
-        OptionalSession::None,
-        OptionalSession::None,
-    )
+    TradingHours::new(date, Session { start, end }, None, None)
 }
 
 // Whether the time is from the start to before the end.

@@ -5,17 +5,16 @@ ghost use Rattle.rule_days.specs.Days.{is_day};
 ghost use Rattle.schedule.specs.MarketHours.{black_friday, is_early_close_day, us_trading_hours};
 
 use crate::constants::USMarket;
-use crate::{OptionalSession, OptionalTime, Session, TradingHours};
+use crate::{Session, TradingHours};
 use gregorian::Date;
 use markets::is_weekend;
 use markets::us::holidays::thanksgiving_day;
-use utils::OptionalDay;
 
 // The day after Thanksgiving.
 fn is_black_friday(year: u32, n: u32) -> bool
     ensures { result ≡ is_day (black_friday year) n }
 {
-    let OptionalDay::Day(thanksgiving) = thanksgiving_day(year) else {
+    let Some(thanksgiving) = thanksgiving_day(year) else {
         return false;
     };
     n == thanksgiving + 1
@@ -43,7 +42,7 @@ pub fn trading_hours(date: Date) -> TradingHours
         start: USMarket::REGULAR_OPEN,
         end: USMarket::REGULAR_CLOSE,
     };
-    let pre_market = OptionalSession::Some(Session {
+    let pre_market = Some(Session {
         start: USMarket::PREMARKET_OPEN,
         end: USMarket::REGULAR_OPEN,
     });
@@ -52,14 +51,14 @@ pub fn trading_hours(date: Date) -> TradingHours
             date,
             pre_market,
             regular,
-            after_hours: OptionalSession::Some(Session {
+            after_hours: Some(Session {
                 start: USMarket::EARLY_CLOSE,
                 end: USMarket::AFTERHOURS_CLOSE,
             }),
-            early_close: OptionalTime::Some(USMarket::EARLY_CLOSE),
+            early_close: Some(USMarket::EARLY_CLOSE),
         };
     }
-    let after_hours = OptionalSession::Some(Session {
+    let after_hours = Some(Session {
         start: USMarket::REGULAR_CLOSE,
         end: USMarket::AFTERHOURS_CLOSE,
     });

@@ -1,5 +1,6 @@
 -- The laws of the month sheet hold.
 -- Assumes nothing.
+use Rattle.std.proofs.Common.{Result, Ok, Err}
 use Prim.Native.Nat.{ℕ, ◌^◌, ◌≤◌, ◌<◌}
 use mathlib.Core.Path.{◌≡◌, refl, sym, ap, ◌∙◌}
 use mathlib.Core.Bool.{true}
@@ -18,7 +19,6 @@ use Rattle.trading_days.specs.Month.{month_list}
 use Rattle.trading_days.proofs.MonthDayLaws.{list-in-month, list_length}
 use Rattle.buffers.specs.Buffers.{overwrite}
 use Rattle.buffers.proofs.BufferLaws.{overwrite-start}
-use Rattle.error.specs.declared.CountResult.{CountResult}
 use Rattle.checks.specs.Checks.{checked_room, final_buffer}
 use Rattle.checks.proofs.CheckLaws.{CheckedMonth, month-passes, month-checked, room-enough, room-checked}
 use Rattle.range_calls.specs.RangeCalls.{trading_days_in_month_result, trading_days_in_month_buffer}
@@ -32,11 +32,12 @@ use Rattle.request.specs.declared.Request.{Request}
 use Rattle.request.specs.Text.{ascii}
 use Rattle.request.specs.Request.{request_text, read_request}
 use Rattle.sheet_lines.specs.Sheet.{comma_separated, sheet_lines, month_sheet}
-use Rattle.sheet.specs.SheetCall.{SheetResult, sheet_of_month, sheet_of_request, sheet_written, sheet_buffer}
+use Rattle.sheet.specs.SheetCall.{sheet_of_month, sheet_of_request, sheet_written, sheet_buffer}
 use Rattle.request.proofs.Form.{reads-the-form}
 use Rattle.sheet.proofs.SheetCallLaws.{sheet-by-check, sheet-asked, sheet-fits}
 use Rattle.sheet_laws.specs.SheetLaws.{split_lines, first_lines, split_list, IsNumber, sheet_call, SheetLaws, AllSheetLaws}
 use Rattle.sheet_laws.proofs.Splitting.{Above, decimal-above, split_text, first-lines, numbers-above, split-list}
+use Rattle.error.specs.declared.CalendarError.{CalendarError}
 
 -- ---- numbers
 
@@ -51,24 +52,24 @@ values (n ∷ ns) = λ j. decimal-value n j ∷ values ns j
 -- ---- what the calls wrote
 
 -- Bytes that were written without an error are all there.
-written-bytes : (bytes buffer : List ℕ) (n : ℕ) → checked_room (length bytes) (length buffer) ≡ CountResult.Ok n
+written-bytes : (bytes buffer : List ℕ) (n : ℕ) → checked_room (length bytes) (length buffer) ≡ Ok n
     → (n ≡ length bytes) × (take n (final_buffer (checked_room (length bytes) (length buffer)) bytes buffer) ≡ bytes)
 written-bytes bytes buffer n e =
     let l = (room-checked (length bytes) (length buffer) n e).0 in (
       l,
-      ap (λ (r : CountResult). take n (final_buffer r bytes buffer)) e ∙ ap (λ (k : ℕ). take k (overwrite bytes buffer)) l ∙ overwrite-start bytes buffer,
+      ap (λ (r : Result ℕ CalendarError). take n (final_buffer r bytes buffer)) e ∙ ap (λ (k : ℕ). take k (overwrite bytes buffer)) l ∙ overwrite-start bytes buffer,
     )
 
 -- The call gave no error, and so what it wrote is the sheet.
-sheet-checked : (market year month n : ℕ) (buffer : List ℕ) → sheet_written (sheet_of_month market year month) buffer ≡ CountResult.Ok n
-    → CheckedMonth market year month × (sheet_of_month market year month ≡ SheetResult.Ok (month_sheet market year month))
+sheet-checked : (market year month n : ℕ) (buffer : List ℕ) → sheet_written (sheet_of_month market year month) buffer ≡ Ok n
+    → CheckedMonth market year month × (sheet_of_month market year month ≡ Ok (month_sheet market year month))
 sheet-checked market year month n buffer h = by (sheet_of_month market year month) refl
   where
-    by : (r : SheetResult) → sheet_of_month market year month ≡ r
-        → CheckedMonth market year month × (sheet_of_month market year month ≡ SheetResult.Ok (month_sheet market year month))
-    by (SheetResult.Ok bytes) e = let a = sheet-asked market year month bytes e in (a.0, e ∙ ap SheetResult.Ok a.1)
-    by (SheetResult.Err d) e =
-        let z : CountResult.Err d ≡ CountResult.Ok n = ap (λ (r : SheetResult). sheet_written r buffer) (sym e) ∙ h in
+    by : (r : Result (List ℕ) CalendarError) → sheet_of_month market year month ≡ r
+        → CheckedMonth market year month × (sheet_of_month market year month ≡ Ok (month_sheet market year month))
+    by (Ok bytes) e = let a = sheet-asked market year month bytes e in (a.0, e ∙ ap Ok a.1)
+    by (Err d) e =
+        let z : Err d ≡ Ok n = ap (λ (r : Result (List ℕ) CalendarError). sheet_written r buffer) (sym e) ∙ h in
         absurd (let z : ◌≡◌ {A = ℕ} 0 1 = cc in omega arith)
 
 -- ---- the sheet of a month
@@ -81,7 +82,7 @@ module _ (market year month : ℕ) (k : CheckedMonth market year month) where
   month-answer : (buffer : List ℕ) → trading_days_in_month_result market year month buffer ≡ checked_room (length days) (length buffer)
   month-answer buffer = month-of-years market year month buffer k.known k.supported k.from k.to
 
-  month-written : (buffer : List ℕ) (i : ℕ) → trading_days_in_month_result market year month buffer ≡ CountResult.Ok i
+  month-written : (buffer : List ℕ) (i : ℕ) → trading_days_in_month_result market year month buffer ≡ Ok i
       → (i ≡ length days) × (take i (trading_days_in_month_buffer market year month buffer) ≡ days)
   month-written buffer i e = rw (month-answer buffer) (written-bytes days buffer i (sym (month-answer buffer) ∙ e))
 
@@ -169,11 +170,11 @@ module _ (market year month : ℕ) (k : CheckedMonth market year month) where
 -- ---- the call
 
 -- The text asks for a month, as it gives no error 10.
-by-request : (text buffer : List ℕ) (n : ℕ) (r : Request) → read_request text ≡ r → sheet_written (sheet_of_request r) buffer ≡ CountResult.Ok n
+by-request : (text buffer : List ℕ) (n : ℕ) (r : Request) → read_request text ≡ r → sheet_written (sheet_of_request r) buffer ≡ Ok n
     → SheetLaws text n (take n (sheet_buffer (sheet_of_request r) buffer))
 by-request text buffer n (Request.Month market year month) e h =
     let s = sheet-checked market year month n buffer h in
-    let w = written-bytes (month_sheet market year month) buffer n (ap (λ (r : SheetResult). sheet_written r buffer) (sym s.1) ∙ h) in
+    let w = written-bytes (month_sheet market year month) buffer n (ap (λ (r : Result (List ℕ) CalendarError). sheet_written r buffer) (sym s.1) ∙ h) in
     rw (s.1, w.1) (laws market year month s.0 text n e w.0)
 by-request text buffer n Request.Malformed e h = absurd (let z : ◌≡◌ {A = ℕ} 0 1 = cc in omega arith)
 
@@ -186,7 +187,7 @@ answered text buffer market year month e k s l u room =
     let short = sheet-fits market year month (month-checked market year month checked) in (
       length bytes,
       ap (λ (r : Request). count_answer (sheet_written (sheet_of_request r) buffer)) e
-          ∙ ap (λ (r : SheetResult). count_answer (sheet_written r buffer)) (sheet-by-check market year month _ checked)
+          ∙ ap (λ (r : Result (List ℕ) CalendarError). count_answer (sheet_written r buffer)) (sheet-by-check market year month _ checked)
           ∙ ap count_answer (room-enough (length bytes) (length buffer) (omega arith))
           ∙ counted_is (length bytes),
     )

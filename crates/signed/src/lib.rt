@@ -11,14 +11,16 @@ pub enum Signed {
     Negative(u32),
 }
 
-// -1 - n has no overflow, where -n has one at -2^31.
-pub fn by_sign(n: i32) -> Signed
-    ensures { integer result ≡ n }
-{
-    if n < 0 {
-        let k = -1 - n;
-        Signed::Negative(k as u32)
-    } else {
-        Signed::NotNegative(n as u32)
+impl From<i32> for Signed {
+    ghost from_gives = { λ n signed. integer signed ≡ n };
+
+    // -1 - n has no overflow, where -n has one at -2^31.
+    fn from(n: i32) -> Self {
+        if n < 0 {
+            let k = -1 - n;
+            Signed::Negative(k as u32)
+        } else {
+            Signed::NotNegative(n as u32)
+        }
     }
 }

@@ -2,7 +2,7 @@
 ghost use Rattle.gregorian.specs.Calendar.{date};
 ghost use Rattle.answers.specs.CommonDayCall.{CommonTradingDay};
 
-use answers::optional_dates::{OptionalDateAnswer, optional_date_answer};
+use answers::optional_dates::OptionalDateAnswer;
 use gregorian::Date;
 
 // [common-day]: a day from the start to the end, both included, on which every market of the set trades, or none exactly if there is no
@@ -29,5 +29,5 @@ pub fn tc_common_trading_day(
         month: end_month,
         day: end_day,
     };
-    optional_date_answer(market_sets::common_trading_day(markets, start, end))
+    OptionalDateAnswer::from(market_sets::common_trading_day(markets, start, end))
 }

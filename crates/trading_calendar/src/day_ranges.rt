@@ -3,7 +3,7 @@ ghost use Rattle.std.specs.Prelude.{◌≡◌};
 ghost use Rattle.range_calls.specs.RangeCalls.{trading_days_in_month_result, trading_days_in_month_buffer, count_trading_days_result};
 ghost use Rattle.answers.specs.Answers.{count_answer};
 
-use answers::counts::{CountAnswer, count_answer};
+use answers::counts::CountAnswer;
 
 // [month-list]: how many days were written to the buffer, one byte for each, or the first of errors 8, 1, 2 and 9 that applies, with
 // which nothing is written [error-writes-nothing].
@@ -11,7 +11,7 @@ pub fn tc_trading_days_in_month(market: u32, year: u32, month: u32, out: &mut [u
     ensures { (result ≡ count_answer (trading_days_in_month_result market year month out.old))
         × (out.new ≡ trading_days_in_month_buffer market year month out.old) }
 {
-    count_answer(range_calls::counts::trading_days_in_month(market, year, month, out))
+    CountAnswer::from(range_calls::counts::trading_days_in_month(market, year, month, out))
 }
 
 // [count]: how many days trade from the start to the end, both included, or the first of errors 8, 5 and 1 that applies.
@@ -27,7 +27,7 @@ pub fn tc_count_trading_days(
     ensures { result ≡ count_answer (count_trading_days_result market start_year start_month start_day
         end_year end_month end_day) }
 {
-    count_answer(range_calls::counts::count_trading_days(
+    CountAnswer::from(range_calls::counts::count_trading_days(
         market,
         start_year,
         start_month,

@@ -14,7 +14,7 @@ ghost use Rattle.utils.specs.Easter.{calculate_easter, calculate_good_friday, ca
 ghost use Rattle.calendar.specs.CalendarCalls.{is_trading_day_result, is_holiday_result};
 ghost use Rattle.answers.specs.Answers.{optional_date, bool_answer};
 
-use answers::{BoolAnswer, OptionalDate, bool_answer, easter_answer, nth_weekday_answer};
+use answers::{BoolAnswer, OptionalDate, easter_answer, nth_weekday_answer};
 use utils::easter::{EARLIEST_EASTER, EARLIEST_EASTER_MONDAY, EARLIEST_GOOD_FRIDAY};
 use utils::find_nth_weekday;
 
@@ -58,12 +58,12 @@ pub fn tc_calculate_easter_monday(year: u32) -> OptionalDate
 pub fn tc_is_trading_day(market: u32, year: u32, month: u32, day: u32) -> BoolAnswer
     ensures { result ≡ bool_answer (is_trading_day_result market year month day) }
 {
-    bool_answer(calendar::is_trading_day(market, year, month, day))
+    BoolAnswer::from(calendar::is_trading_day(market, year, month, day))
 }
 
 // [is-holiday]: yes or no, or the first of errors 8, 5 and 1 that applies.
 pub fn tc_is_holiday(market: u32, year: u32, month: u32, day: u32) -> BoolAnswer
     ensures { result ≡ bool_answer (is_holiday_result market year month day) }
 {
-    bool_answer(calendar::is_holiday(market, year, month, day))
+    BoolAnswer::from(calendar::is_holiday(market, year, month, day))
 }

@@ -7,40 +7,38 @@ ghost use Rattle.hours_calls.specs.HoursCalls.{is_early_close_result, market_clo
 ghost use Rattle.answers.specs.Records.{optional_session, trading_hours_of};
 ghost use Rattle.answers.specs.Answers.{bool_answer, time_answer, session_answer, hours_answer};
 
-use answers::records::{Hours, optional_session, trading_hours_of};
-use answers::trading_hours::{
-    HoursAnswer, SessionAnswer, TimeAnswer, hours_answer, session_answer, time_answer,
-};
-use answers::{BoolAnswer, bool_answer};
+use answers::BoolAnswer;
+use answers::records::{Hours, optional};
+use answers::trading_hours::{HoursAnswer, SessionAnswer, TimeAnswer};
 use gregorian::Date;
-use schedule::Session;
+use schedule::{Session, TradingHours};
 
 // [trading-hours]: the hours of the date, in any year, or the first of errors 8 and 5 that applies.
 pub fn tc_trading_hours(market: u32, year: u32, month: u32, day: u32) -> HoursAnswer
     ensures { result ≡ hours_answer (trading_hours_result market year month day) }
 {
-    hours_answer(calendar::trading_hours(market, year, month, day))
+    HoursAnswer::from(calendar::trading_hours(market, year, month, day))
 }
 
 // [is-open]: yes or no, or the first of errors 8, 5, 7 and 1 that applies.
 pub fn tc_is_open(market: u32, year: u32, month: u32, day: u32, time: u32) -> BoolAnswer
     ensures { result ≡ bool_answer (is_open_result market year month day time) }
 {
-    bool_answer(calendar::is_open(market, year, month, day, time))
+    BoolAnswer::from(calendar::is_open(market, year, month, day, time))
 }
 
 // [session-new]: the session, or the first of errors 7 and 3 that applies.
 pub fn tc_session_new(start: u32, end: u32) -> SessionAnswer
     ensures { result ≡ session_answer (session_new_result start end) }
 {
-    session_answer(hours_calls::session_new(start, end))
+    SessionAnswer::from(hours_calls::session_new(start, end))
 }
 
 // [contains]: yes or no, or error 7.
 pub fn tc_session_contains(session: Session, time: u32) -> BoolAnswer
     ensures { result ≡ bool_answer (session_contains_result session time) }
 {
-    bool_answer(hours_calls::session_contains(session, time))
+    BoolAnswer::from(hours_calls::session_contains(session, time))
 }
 
 // [hours-new]: the hours, without an early close, or the first of errors 5 and 7 that applies.
@@ -57,11 +55,11 @@ pub fn tc_trading_hours_new(
     ensures { result ≡ hours_answer (trading_hours_new_result (date year month day) regular
         (optional_session has_pre_market pre_market) (optional_session has_after_hours after_hours)) }
 {
-    hours_answer(hours_calls::trading_hours_new(
+    HoursAnswer::from(hours_calls::trading_hours_new(
         Date { year, month, day },
         regular,
-        optional_session(has_pre_market, pre_market),
-        optional_session(has_after_hours, after_hours),
+        optional(has_pre_market, pre_market),
+        optional(has_after_hours, after_hours),
     ))
 }
 
@@ -69,26 +67,26 @@ pub fn tc_trading_hours_new(
 pub fn tc_with_early_close(hours: Hours, time: u32) -> HoursAnswer
     ensures { result ≡ hours_answer (with_early_close_result (trading_hours_of hours) time) }
 {
-    hours_answer(hours_calls::with_early_close(trading_hours_of(hours), time))
+    HoursAnswer::from(hours_calls::with_early_close(TradingHours::from(hours), time))
 }
 
 // [is-early-close]: yes or no, or the first of errors 5 and 7 that applies.
 pub fn tc_is_early_close(hours: Hours) -> BoolAnswer
     ensures { result ≡ bool_answer (is_early_close_result (trading_hours_of hours)) }
 {
-    bool_answer(hours_calls::is_early_close(trading_hours_of(hours)))
+    BoolAnswer::from(hours_calls::is_early_close(TradingHours::from(hours)))
 }
 
 // [market-close]: the time, or the first of errors 5 and 7 that applies.
 pub fn tc_market_close(hours: Hours) -> TimeAnswer
     ensures { result ≡ time_answer (market_close_result (trading_hours_of hours)) }
 {
-    time_answer(hours_calls::market_close(trading_hours_of(hours)))
+    TimeAnswer::from(hours_calls::market_close(TradingHours::from(hours)))
 }
 
 // [is-open-at]: yes or no, or the first of errors 5 and 7 that applies.
 pub fn tc_is_open_at(hours: Hours, time: u32) -> BoolAnswer
     ensures { result ≡ bool_answer (is_open_at_result (trading_hours_of hours) time) }
 {
-    bool_answer(hours_calls::is_open_at(trading_hours_of(hours), time))
+    BoolAnswer::from(hours_calls::is_open_at(TradingHours::from(hours), time))
 }

@@ -1,5 +1,6 @@
 -- Easter by the Anonymous Gregorian algorithm: a date, from 22 March to 25 April.
 -- Assumes nothing.
+use Rattle.std.proofs.Common.{Option, Some, None, option_map}
 use Prim.Native.Nat.{ℕ, ◌+◌, ◌-◌, ◌*◌, ◌/◌, ◌%◌, ◌≤◌, ◌<◌}
 use mathlib.Core.Path.{◌≡◌, refl, ap, ap₂, ◌∙◌}
 use mathlib.Core.Bool.{true, ◌&&◌}
@@ -10,9 +11,6 @@ use borrow.Author.Tests.{leb-true, le-leb}
 use Rattle.gregorian.specs.Calendar.{month_length, total, day_number, last_year, last_day, is_date}
 use Rattle.gregorian.proofs.Tests.{and_left, and_right}
 use Rattle.gregorian.proofs.Laws.{date-by, number-range}
-use Rattle.utils.specs.declared.OptionalDay.{OptionalDay}
-use Rattle.utils.specs.declared.OptionalDay.TheVariants.{Day, None}
-use Rattle.utils.specs.Weekday.{map_day}
 use Rattle.utils.specs.Easter.{moon_days, easter, calculate_easter}
 use Rattle.utils.proofs.WeekdayLaws.{when-day}
 
@@ -103,10 +101,10 @@ pub record EasterDay (y n : ℕ) : Type 0 where
   pub low : 22 ≤ n
   pub high : n ≤ last_day
 
-pub easter-day : (y n : ℕ) → calculate_easter y ≡ Day n → EasterDay y n
+pub easter-day : (y n : ℕ) → calculate_easter y ≡ Some n → EasterDay y n
 unfolding calculate_easter easter days_after
 easter-day y n e =
-    let c = when-day (leb 1 y && leb y last_year) (Day (easter y)) n e in
+    let c = when-day (leb 1 y && leb y last_year) (Some (easter y)) n e in
     let l = leb-true 1 y (and_left (leb 1 y) _ c.0) in
     let h = leb-true y last_year (and_right (leb 1 y) _ c.0) in
     let q : easter y ≡ n = cc c.1 in
@@ -119,21 +117,14 @@ easter-day y n e =
       high = omega (arith, q, r);
     }
 
-pub map-day-same : (f g : ℕ → ℕ) (r : OptionalDay) → ((n : ℕ) → f n ≡ g n) → map_day f r ≡ map_day g r
-map-day-same f g (Day n) e = ap Day (e n)
+pub map-day-same : (f g : ℕ → ℕ) (r : Option ℕ) → ((n : ℕ) → f n ≡ g n) → option_map f r ≡ option_map g r
+map-day-same f g (Some n) e = ap Some (e n)
 map-day-same f g None e = refl
 
-pub map-day-id : (r : OptionalDay) → map_day (λ n. n) r ≡ r
-map-day-id (Day n) = refl
+pub map-day-id : (r : Option ℕ) → option_map (λ n. n) r ≡ r
+map-day-id (Some n) = refl
 map-day-id None = refl
 
--- what `?` makes of an answer
-pub after_none : (f : ℕ → ℕ) (y : ℕ) → None ≡ calculate_easter y → None ≡ map_day f (calculate_easter y)
-after_none f y e = ap (map_day f) e
-
-pub after-day : (f : ℕ → ℕ) (y n : ℕ) → Day n ≡ calculate_easter y → Day (f n) ≡ map_day f (calculate_easter y)
-after-day f y n e = ap (map_day f) e
-
-pub easter-found : (y : ℕ) → 1 ≤ y → y ≤ last_year → calculate_easter y ≡ Day (easter y)
+pub easter-found : (y : ℕ) → 1 ≤ y → y ≤ last_year → calculate_easter y ≡ Some (easter y)
 unfolding calculate_easter
 easter-found y l h = simp (le-leb 1 y l, le-leb y last_year h)

@@ -1,5 +1,6 @@
 -- The laws of the nth weekday of a month, for any weekday, month and signed n.
 -- Assumes nothing.
+use Rattle.std.proofs.Common.{Option, Some, None, option_map, option_and_then}
 use Prim.Native.Nat.{ℕ, zero, suc, ◌+◌, ◌-◌, ◌*◌, ◌%◌, ◌≤◌, ◌<◌}
 use mathlib.Core.Path.{◌≡◌, refl, ap, sym, ◌∙◌}
 use mathlib.Core.Bool.{Bool, true, false, cond, ◌&&◌, ◌||◌}
@@ -14,21 +15,19 @@ use Rattle.gregorian.specs.declared.Date.{Date}
 use Rattle.gregorian.proofs.Tests.{and_left, and_right}
 use Rattle.gregorian.proofs.Laws.{days-on, is-date, date-is, date-by, month-low, next-number, number-range, date-of-number}
 use Rattle.gregorian.proofs.Weekdays.{weekday-weeks}
-use Rattle.utils.specs.declared.OptionalDay.{OptionalDay}
-use Rattle.utils.specs.declared.OptionalDay.TheVariants.{Day, None}
-use Rattle.utils.specs.Weekday.{map_day, then_day, if_in_month, first_from, target_day, nth_from_start, last_up_to, next_month, next_year, first_of_next, last_weekday_of_month, weeks_before, weeks_before_last, most_nth, nth_weekday_of_month}
+use Rattle.utils.specs.Weekday.{if_in_month, first_from, target_day, nth_from_start, last_up_to, next_month, next_year, first_of_next, last_weekday_of_month, weeks_before, weeks_before_last, most_nth, nth_weekday_of_month}
 use Rattle.utils.specs.Inner.{InYears}
 
 -- what a test that leads to a day or to None says where there is a day
-pub when-day : (b : Bool) (x : OptionalDay) (t : ℕ) → cond b x None ≡ Day t → (b ≡ true) × (x ≡ Day t)
+pub when-day : (b : Bool) (x : Option ℕ) (t : ℕ) → cond b x None ≡ Some t → (b ≡ true) × (x ≡ Some t)
 when-day true x t e = (refl, e)
 when-day false x t e = (cc, cc)
 
-never : (b : Bool) → cond b None None ≡ None
+never : (b : Bool) → cond {A = Option ℕ} b None None ≡ None
 never true = refl
 never false = refl
 
-none-no-day : (t : ℕ) → None ≡ Day t → ⊥
+none-no-day : (t : ℕ) → None ≡ Some t → ⊥
 none-no-day t e = let z : ◌≡◌ {A = ℕ} 0 1 = cc in omega arith
 
 -- The first w from day s on is a w, one of seven days, and no day before it is a w.
@@ -47,20 +46,20 @@ first-least s w u h l k e = omega arith
 -- ---- the month of the target
 
 -- Only the month's number is compared: what is kept, and that wherever the target lies in such a month it is kept.
-kept : (m t u : ℕ) → if_in_month m u ≡ Day t → (u ≡ t) × (t ≤ last_day) × ((date_of t).month ≡ m)
+kept : (m t u : ℕ) → if_in_month m u ≡ Some t → (u ≡ t) × (t ≤ last_day) × ((date_of t).month ≡ m)
 unfolding if_in_month
 kept m t u e =
-    let c = when-day (leb u last_day && eqb (date_of u).month m) (Day u) t e in
+    let c = when-day (leb u last_day && eqb (date_of u).month m) (Some u) t e in
     let q : u ≡ t = cc c.1 in
     let l = leb-true u last_day (and_left (leb u last_day) _ c.0) in
     (q, omega (arith, q, l), ap (λ (i : ℕ). (date_of i).month) (sym q) ∙ eqb-true _ _ (and_right (leb u last_day) _ c.0))
 
-keeps : (m t : ℕ) → t ≤ last_day → (date_of t).month ≡ m → if_in_month m t ≡ Day t
+keeps : (m t : ℕ) → t ≤ last_day → (date_of t).month ≡ m → if_in_month m t ≡ Some t
 unfolding if_in_month
 keeps m t l e = simp (le-leb _ last_day l, eq-eqb _ m e)
 
 -- Day j + 1 of a month that has it is kept.
-in-month : (y m j t : ℕ) → is_date y m 1 ≡ true → j < month_length y m → t ≡ day_number y m 1 + j → if_in_month m t ≡ Day t
+in-month : (y m j t : ℕ) → is_date y m 1 ≡ true → j < month_length y m → t ≡ day_number y m 1 + j → if_in_month m t ≡ Some t
 in-month y m j t h l e =
     let x = (is-date y m 1 h).exists in
     let g : Exists y m (1 + j) = record { y-low = x.y-low; m-low = x.m-low; m-high = x.m-high; d-low = omega arith; d-high = omega arith } in
@@ -173,11 +172,11 @@ last-weekday y m w h w6 =
     }
 
 -- It is the answer wherever there is a next month, and nowhere else.
-pub last_found : (y m w : ℕ) → is_date y m 1 ≡ true → w ≤ 6 → is_date (next_year y m) (next_month m) 1 ≡ true → last_weekday_of_month y m w ≡ Day (last_of y m w)
+pub last_found : (y m w : ℕ) → is_date y m 1 ≡ true → w ≤ 6 → is_date (next_year y m) (next_month m) 1 ≡ true → last_weekday_of_month y m w ≡ Some (last_of y m w)
 unfolding last_weekday_of_month first_of_next
 last_found y m w h w6 n =
     let before : day_number (next_year y m) (next_month m) 1 - 1 ≡ day_number y m (month_length y m) = omega (arith, month-end y m h) in
-    simp (h, le-leb w 6 w6, n) (ap (λ (i : ℕ). Day (last_up_to w i)) before)
+    simp (h, le-leb w 6 w6, n) (ap (λ (i : ℕ). Some (last_up_to w i)) before)
 
 pub end-without-next : (y m w k : ℕ) → is_date y m 1 ≡ true → w ≤ 6 → is_date (next_year y m) (next_month m) 1 ≡ false → nth_weekday_of_month y m w (negsuc k) ≡ None
 unfolding weeks_before_last last_weekday_of_month first_of_next
@@ -188,7 +187,7 @@ pub record HasLast (y m w : ℕ) : Type 0 where
   pub is-weekday : w ≤ 6
   pub has-next : is_date (next_year y m) (next_month m) 1 ≡ true
 
-has_last : (y m w t : ℕ) → last_weekday_of_month y m w ≡ Day t → HasLast y m w
+has_last : (y m w t : ℕ) → last_weekday_of_month y m w ≡ Some t → HasLast y m w
 unfolding last_weekday_of_month first_of_next
 has_last y m w t e =
     let c = when-day (is_date y m 1 && leb w 6) _ t e in
@@ -198,14 +197,14 @@ has_last y m w t e =
       has-next = by (is_date (next_year y m) (next_month m) 1) _ c.1;
     }
   where
-    by : (b : Bool) (n : ℕ) → map_day (λ n. last_up_to w (n - 1)) (cond b (Day n) None) ≡ Day t → b ≡ true
+    by : (b : Bool) (n : ℕ) → option_map (λ n. last_up_to w (n - 1)) (cond b (Some n) None) ≡ Some t → b ≡ true
     by true n q = refl
     by false n q = absurd (none-no-day t q)
 
 -- ---- n weeks from the first, or from the last
 
 -- The first four are in the month itself, and so are the last four.
-pub nth-early : (y m w n : ℕ) → is_date y m 1 ≡ true → w ≤ 6 → 1 ≤ n → n ≤ 4 → nth_from_start y m w n ≡ Day (target_day y m w n)
+pub nth-early : (y m w n : ℕ) → is_date y m 1 ≡ true → w ≤ 6 → 1 ≤ n → n ≤ 4 → nth_from_start y m w n ≡ Some (target_day y m w n)
 unfolding nth_from_start target_day
 nth-early y m w n h w6 n1 n4 =
     let f = first-near (day_number y m 1) w in
@@ -230,13 +229,13 @@ week-from-end y m w k h l =
     let weeks : last_of y m w - 7 * k + 7 * k ≡ last_of y m w = omega (arith, i.1, l) in
     one-of-seven w _ (last_of y m w - 7 * k) h (sym (weekday-weeks (last_of y m w - 7 * k) k) ∙ ap weekday_of weeks ∙ i.0) (omega (arith, i.1, l)) (omega (arith, i.1, l))
 
-before-found : (m k t s : ℕ) → s ≡ t + 7 * k → 1 ≤ t → if_in_month m t ≡ Day t → weeks_before m k s ≡ Day t
+before-found : (m k t s : ℕ) → s ≡ t + 7 * k → 1 ≤ t → if_in_month m t ≡ Some t → weeks_before m k s ≡ Some t
 unfolding weeks_before
 before-found m k t s e l f =
     let q : s - 7 * k ≡ t = omega arith in
     simp (lt-ltb (7 * k) s (omega arith), q) f
 
-pub end-early : (y m w k : ℕ) → HasLast y m w → k ≤ 3 → weeks_before_last y m w k ≡ Day (last_of y m w - 7 * k)
+pub end-early : (y m w k : ℕ) → HasLast y m w → k ≤ 3 → weeks_before_last y m w k ≡ Some (last_of y m w - 7 * k)
 unfolding weeks_before_last day_number
 end-early y m w k h k3 =
     let l = last-weekday y m w h.is-month h.is-weekday in
@@ -250,11 +249,11 @@ pub nth_last : (y m w : ℕ) → weeks_before_last y m w 0 ≡ last_weekday_of_m
 unfolding weeks_before_last
 nth_last y m w = by (last_weekday_of_month y m w) refl
   where
-    by : (r : OptionalDay) → last_weekday_of_month y m w ≡ r → then_day (weeks_before m 0) r ≡ r
-    by (Day t) e =
+    by : (r : Option ℕ) → last_weekday_of_month y m w ≡ r → option_and_then (weeks_before m 0) r ≡ r
+    by (Some t) e =
         let h = has_last y m w t e in
         let q = last_found y m w h.is-month h.is-weekday h.has-next in
-        ap (then_day (weeks_before m 0)) (sym e) ∙ end-early y m w 0 h (lit≤ tt) ∙ ap Day (omega arith) ∙ sym q ∙ e
+        ap (option_and_then (weeks_before m 0)) (sym e) ∙ end-early y m w 0 h (lit≤ tt) ∙ ap Some (omega arith) ∙ sym q ∙ e
     by None e = refl
 
 -- ---- signed
@@ -279,7 +278,7 @@ pub record IsNth (y m w : ℕ) (n : ℤ) (t : ℕ) : Type 0 where
   pub low : 1 ≤ t
   pub high : t ≤ last_day
 
-from_start : (y m w n t : ℕ) → n ≤ most_nth → nth_from_start y m w n ≡ Day t → IsNth y m w (pos n) t
+from_start : (y m w n t : ℕ) → n ≤ most_nth → nth_from_start y m w n ≡ Some t → IsNth y m w (pos n) t
 unfolding nth_from_start target_day
 from_start y m w n t h e =
     let c = when-day (is_date y m 1 && leb w 6 && leb 1 n) _ t e in
@@ -296,12 +295,12 @@ from_start y m w n t h e =
       high = k.1;
     }
 
-from_end : (y m w k t : ℕ) → k < most_nth → weeks_before_last y m w k ≡ Day t → IsNth y m w (negsuc k) t
+from_end : (y m w k t : ℕ) → k < most_nth → weeks_before_last y m w k ≡ Some t → IsNth y m w (negsuc k) t
 unfolding weeks_before_last weeks_before
 from_end y m w k t h e = by (last_weekday_of_month y m w) refl e
   where
-    by : (r : OptionalDay) → last_weekday_of_month y m w ≡ r → then_day (weeks_before m k) r ≡ Day t → IsNth y m w (negsuc k) t
-    by (Day s) p q =
+    by : (r : Option ℕ) → last_weekday_of_month y m w ≡ r → option_and_then (weeks_before m k) r ≡ Some t → IsNth y m w (negsuc k) t
+    by (Some s) p q =
         let l = has_last y m w s p in
         let same : last_of y m w ≡ s = cc (last_found y m w l.is-month l.is-weekday l.has-next) in
         let c = when-day (ltb (7 * k) s) _ t q in
@@ -318,7 +317,7 @@ from_end y m w k t h e = by (last_weekday_of_month y m w) refl e
         }
     by None p q = absurd (none-no-day t q)
 
-pub nth-weekday : (y m w : ℕ) (n : ℤ) (t : ℕ) → nth_weekday_of_month y m w n ≡ Day t → IsNth y m w n t
+pub nth-weekday : (y m w : ℕ) (n : ℤ) (t : ℕ) → nth_weekday_of_month y m w n ≡ Some t → IsNth y m w n t
 nth-weekday y m w (pos n) t e =
     let c = when-day (leb n most_nth) _ t e in
     from_start y m w n t (leb-true n most_nth c.0) c.1
@@ -333,7 +332,7 @@ not-asked y m w (pos n) e = simp e (never (leb n most_nth))
 not-asked y m w (negsuc k) e = simp e (never (ltb k most_nth))
 
 -- Wherever the target lies in such a month, it is the answer.
-pub nth-found : (y m w : ℕ) (n : ℤ) (t : ℕ) → IsNth y m w n t → nth_weekday_of_month y m w n ≡ Day t
+pub nth-found : (y m w : ℕ) (n : ℤ) (t : ℕ) → IsNth y m w n t → nth_weekday_of_month y m w n ≡ Some t
 unfolding nth_from_start target_day weeks_before_last
 nth-found y m w (pos n) t d =
     simp (le-leb n most_nth d.limits.1, d.is-month, le-leb w 6 d.is-weekday, le-leb 1 n d.limits.0)
@@ -352,6 +351,6 @@ weekday-is y m w (negsuc k) t d =
 pub nth-in-years : (y m w : ℕ) (n : ℤ) → InYears (nth_weekday_of_month y m w n)
 nth-in-years y m w n = by (nth_weekday_of_month y m w n) refl
   where
-    by : (r : OptionalDay) → nth_weekday_of_month y m w n ≡ r → InYears r
-    by (Day t) e = let d = nth-weekday y m w n t e in (d.low, d.high)
+    by : (r : Option ℕ) → nth_weekday_of_month y m w n ≡ r → InYears r
+    by (Some t) e = let d = nth-weekday y m w n t e in (d.low, d.high)
     by None e = tt

@@ -1,9 +1,6 @@
 -- Easter as src/utils/easter.rs has it: docs/SCOPE.md [easter]. Assumes nothing.
-use Rattle.std.specs.Prelude.{ℕ, ◌+◌, ◌-◌, ◌*◌, ◌/◌, ◌%◌, cond, ◌&&◌, leb}
+use Rattle.std.specs.Prelude.{ℕ, ◌+◌, ◌-◌, ◌*◌, ◌/◌, ◌%◌, cond, ◌&&◌, leb, Option, Some, None, option_map}
 use Rattle.gregorian.specs.Calendar.{last_year, day_number}
-use Rattle.utils.specs.declared.OptionalDay.{OptionalDay}
-use Rattle.utils.specs.declared.OptionalDay.TheVariants.{Day, None}
-use Rattle.utils.specs.Weekday.{map_day}
 
 -- h, from a and b: the full moon is h days after 21 March, or a day less under the exceptions of the epact
 unfoldable pub moon_days : ℕ → ℕ → ℕ
@@ -31,13 +28,13 @@ easter year =
     day_number year month day
 
 -- calculate_easter; None outside years 1 to 9999 (added)
-unfoldable pub calculate_easter : ℕ → OptionalDay
-calculate_easter year = cond (leb 1 year && leb year last_year) (Day (easter year)) None
+unfoldable pub calculate_easter : ℕ → Option ℕ
+calculate_easter year = cond (leb 1 year && leb year last_year) (Some (easter year)) None
 
 -- `calculate_easter(year)? - Duration::days(2)`
-unfoldable pub calculate_good_friday : ℕ → OptionalDay
-calculate_good_friday year = map_day (λ n. n - 2) (calculate_easter year)
+unfoldable pub calculate_good_friday : ℕ → Option ℕ
+calculate_good_friday year = option_map (λ n. n - 2) (calculate_easter year)
 
 -- `calculate_easter(year)? + Duration::days(1)`
-unfoldable pub calculate_easter_monday : ℕ → OptionalDay
-calculate_easter_monday year = map_day (λ n. n + 1) (calculate_easter year)
+unfoldable pub calculate_easter_monday : ℕ → Option ℕ
+calculate_easter_monday year = option_map (λ n. n + 1) (calculate_easter year)

@@ -4,7 +4,6 @@ ghost use Rattle.std.specs.Prelude.{◌≡◌, ◌+◌, ◌≤◌};
 ghost use Rattle.gregorian.specs.Calendar.{last_year, day_number};
 ghost use Rattle.utils.specs.Easter.{moon_days, easter, calculate_easter, calculate_good_friday, calculate_easter_monday};
 
-use crate::OptionalDay;
 
 // The days of March on which Easter and the two days beside it are at the earliest.
 pub const EARLIEST_GOOD_FRIDAY: u32 = 20;
@@ -42,33 +41,31 @@ pub fn easter_days(year: u32) -> u32
     h + l - 7 * m
 }
 
-pub fn calculate_easter(year: u32) -> OptionalDay
+pub fn calculate_easter(year: u32) -> Option<u32>
     ensures { result ≡ calculate_easter year }
 {
     if year < 1 {
-        return OptionalDay::None;
+        return None;
     }
     if gregorian::LAST_YEAR < year {
-        return OptionalDay::None;
+        return None;
     }
     let easter = gregorian::day_number(year, 3, EARLIEST_EASTER) + easter_days(year);
-    OptionalDay::Day(easter)
+    Some(easter)
 }
 
-pub fn calculate_good_friday(year: u32) -> OptionalDay
+#[tactic(auto, unfolding(crate::specs::Easter::calculate_good_friday))]
+pub fn calculate_good_friday(year: u32) -> Option<u32>
     ensures { result ≡ calculate_good_friday year }
 {
-    let OptionalDay::Day(easter) = calculate_easter(year) else {
-        return OptionalDay::None;
-    };
-    OptionalDay::Day(easter - 2)
+    let easter = calculate_easter(year)?;
+    Some(easter - 2)
 }
 
-pub fn calculate_easter_monday(year: u32) -> OptionalDay
+#[tactic(auto, unfolding(crate::specs::Easter::calculate_easter_monday))]
+pub fn calculate_easter_monday(year: u32) -> Option<u32>
     ensures { result ≡ calculate_easter_monday year }
 {
-    let OptionalDay::Day(easter) = calculate_easter(year) else {
-        return OptionalDay::None;
-    };
-    OptionalDay::Day(easter + 1)
+    let easter = calculate_easter(year)?;
+    Some(easter + 1)
 }

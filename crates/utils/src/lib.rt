@@ -11,19 +11,11 @@ ghost use Rattle.utils.specs.Inner.{InYears, day_of_nth, NthInYears};
 use gregorian::Date;
 use signed::Signed;
 
-// In the place of the Rust's Option<NaiveDate>: a day number, or none.
-#[derive(Clone, Copy)]
-pub enum OptionalDay {
-    Day(u32),
-    None,
-}
-
-// The nth weekday: a day of the month that was asked about, a day by its number, or none.
+// The nth weekday: a day of the month that was asked about, or a day by its number.
 #[derive(Clone, Copy)]
 pub enum NthWeekday {
     InMonth(u32),
     DayNumber(u32),
-    None,
 }
 
 // How far n goes either way.
@@ -54,43 +46,40 @@ fn has_same_month_number(a: Date, b: Date) -> bool
 }
 
 // The target if it is in a month of the same number as the first day.
-fn if_in_month(first_day: Date, target: u32) -> OptionalDay
+fn if_in_month(first_day: Date, target: u32) -> Option<u32>
     requires { 1 ≤ target }
     ensures { result ≡ if_in_month first_day.month target }
 {
     if gregorian::LAST_DAY < target {
-        return OptionalDay::None;
+        return None;
     }
     if has_same_month_number(gregorian::date_of(target), first_day) {
-        OptionalDay::Day(target)
+        Some(target)
     } else {
-        OptionalDay::None
+        None
     }
 }
 
-fn by_number(day: OptionalDay) -> NthWeekday
+fn by_number(day: Option<u32>) -> Option<NthWeekday>
     requires { InYears day }
     ensures { (y m : ℕ) → (day_of_nth y m result ≡ day) × NthInYears y m result }
 {
-    match day {
-        OptionalDay::Day(n) => NthWeekday::DayNumber(n),
-        OptionalDay::None => NthWeekday::None,
-    }
+    Some(NthWeekday::DayNumber(day?))
 }
 
 // n - 1 weeks after the first one. The first four are always in the month: the nth is among the seven days up to 7 * n.
-fn nth_from_start(year: u32, month: u32, weekday: u32, n: u32) -> NthWeekday
+fn nth_from_start(year: u32, month: u32, weekday: u32, n: u32) -> Option<NthWeekday>
     requires { (is_date year month 1 ≡ true) × (weekday ≤ 6) }
     ensures { (day_of_nth year month result ≡ nth_weekday_of_month year month weekday (pos n)) × NthInYears year month result }
 {
     if n < 1 {
-        return NthWeekday::None;
+        return None;
     }
     if n < 5 {
-        return NthWeekday::InMonth(weekday_up_to(year, month, weekday, 7 * n));
+        return Some(NthWeekday::InMonth(weekday_up_to(year, month, weekday, 7 * n)));
     }
     if MOST_NTH < n {
-        return NthWeekday::None;
+        return None;
     }
     let first = weekday_up_to(year, month, weekday, 7);
     let first_day = Date {
@@ -111,31 +100,31 @@ fn has_next_month(year: u32, month: u32) -> bool
 }
 
 // k weeks before a day, if that is in a month of the same number as the first day.
-fn weeks_before(first_day: Date, k: u32, day: u32) -> OptionalDay
+fn weeks_before(first_day: Date, k: u32, day: u32) -> Option<u32>
     requires { k < most_nth }
     ensures { result ≡ weeks_before first_day.month k day }
 {
     let days = 7 * k;
     if day <= days {
-        return OptionalDay::None;
+        return None;
     }
     if_in_month(first_day, day - days)
 }
 
 // k weeks before the last one. The last four are always in the month: that one is among the seven days up to length - 7 * k.
-fn nth_from_end(year: u32, month: u32, weekday: u32, k: u32) -> NthWeekday
+fn nth_from_end(year: u32, month: u32, weekday: u32, k: u32) -> Option<NthWeekday>
     requires { (is_date year month 1 ≡ true) × (weekday ≤ 6) }
     ensures { (day_of_nth year month result ≡ nth_weekday_of_month year month weekday (negsuc k)) × NthInYears year month result }
 {
     if !has_next_month(year, month) {
-        return NthWeekday::None;
+        return None;
     }
     let length = gregorian::days_in_month(year, month);
     if k < 4 {
-        return NthWeekday::InMonth(weekday_up_to(year, month, weekday, length - 7 * k));
+        return Some(NthWeekday::InMonth(weekday_up_to(year, month, weekday, length - 7 * k)));
     }
     if MOST_NTH <= k {
-        return NthWeekday::None;
+        return None;
     }
     let last = weekday_up_to(year, month, weekday, length);
     let first_day = Date {
@@ -148,30 +137,27 @@ fn nth_from_end(year: u32, month: u32, weekday: u32, k: u32) -> NthWeekday
 }
 
 // [nth-weekday], [last-weekday]
-pub fn find_nth_weekday(year: u32, month: u32, weekday: u32, nth: i32) -> NthWeekday
+pub fn find_nth_weekday(year: u32, month: u32, weekday: u32, nth: i32) -> Option<NthWeekday>
     ensures { (day_of_nth year month result ≡ nth_weekday_of_month year month weekday nth) × NthInYears year month result }
 {
     if !gregorian::is_date(year, month, 1) {
-        return NthWeekday::None;
+        return None;
     }
     if 6 < weekday {
-        return NthWeekday::None;
+        return None;
     }
-    let signed = signed::by_sign(nth);
-    match signed {
+    match Signed::from(nth) {
         Signed::NotNegative(n) => nth_from_start(year, month, weekday, n),
         Signed::Negative(k) => nth_from_end(year, month, weekday, k),
     }
 }
 
 // The same as a day number, for the rules.
-pub fn nth_weekday_of_month(year: u32, month: u32, weekday: u32, nth: i32) -> OptionalDay
+pub fn nth_weekday_of_month(year: u32, month: u32, weekday: u32, nth: i32) -> Option<u32>
     ensures { result ≡ nth_weekday_of_month year month weekday nth }
 {
-    let answer = find_nth_weekday(year, month, weekday, nth);
-    match answer {
-        NthWeekday::InMonth(day) => OptionalDay::Day(gregorian::day_number(year, month, day)),
-        NthWeekday::DayNumber(n) => OptionalDay::Day(n),
-        NthWeekday::None => OptionalDay::None,
+    match find_nth_weekday(year, month, weekday, nth)? {
+        NthWeekday::InMonth(day) => Some(gregorian::day_number(year, month, day)),
+        NthWeekday::DayNumber(n) => Some(n),
     }
 }

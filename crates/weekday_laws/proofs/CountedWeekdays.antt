@@ -1,5 +1,6 @@
 -- The nth weekday of a month is the nth of the days that are one, counted from the month's start or its end.
 -- Assumes nothing.
+use Rattle.std.proofs.Common.{Option, Some, None}
 use Prim.Native.Nat.{ℕ, zero, suc, ◌+◌, ◌-◌, ◌*◌, ◌/◌, ◌≤◌, ◌<◌}
 use mathlib.Core.Path.{◌≡◌, refl, ap, sym, ◌∙◌, subst}
 use mathlib.Core.Bool.{Bool, true, false, ◌||◌}
@@ -14,8 +15,6 @@ use borrow.Author.Tests.{eq-eqb, ne_eqb, lt-ltb, le-ltb}
 use Rattle.gregorian.specs.declared.Date.{Date}
 use Rattle.gregorian.specs.Calendar.{month_length, day_number, last_year, is_date, number, date_of, weekday_of}
 use Rattle.gregorian.proofs.Laws.{is-date, date-of-number, number-of-date, date-of-is, number-range}
-use Rattle.utils.specs.declared.OptionalDay.{OptionalDay}
-use Rattle.utils.specs.declared.OptionalDay.TheVariants.{Day, None}
 use Rattle.utils.specs.Weekday.{first_from, nth_weekday_of_month}
 use Rattle.utils.proofs.WeekdayLaws.{first-is, first-near, first-least, last_of, last-is, LastWeekday, last-weekday, to-28th, next-month, nth_last, Weeks, InLimits, IsNth, nth-weekday, nth-found, weekday-is}
 use Rattle.ranges.proofs.Lists.{first_passes, all-fail, trading-none}
@@ -163,8 +162,8 @@ weekday-laws y m w n =
       last = ap optional_date (nth_last y m w);
     }
   where
-    returned : (r : OptionalDay) → ((t : Date) × (optional_date r ≡ found_date t)) ⊎ (optional_date r ≡ no_date_found)
-    returned (Day u) = inl (date_of u, refl)
+    returned : (r : Option ℕ) → ((t : Date) × (optional_date r ≡ found_date t)) ⊎ (optional_date r ≡ no_date_found)
+    returned (Some u) = inl (date_of u, refl)
     returned None = inr refl
 
     of-day : (u : ℕ) → IsNth y m w n u → IsNthWeekday y m w n (date_of u)
@@ -177,8 +176,8 @@ weekday-laws y m w n =
           counted = subst (CountsTo y m w n) (sym e) (counts-to y m w n u d);
         }
 
-    right : (r : OptionalDay) → nth_weekday_of_month y m w n ≡ r → (t : Date) → optional_date r ≡ found_date t → (is_date y m 1 ≡ true) × WithinLimits y m n × IsNthWeekday y m w n t
-    right (Day u) e t q =
+    right : (r : Option ℕ) → nth_weekday_of_month y m w n ≡ r → (t : Date) → optional_date r ≡ found_date t → (is_date y m 1 ≡ true) × WithinLimits y m n × IsNthWeekday y m w n t
+    right (Some u) e t q =
         let d = nth-weekday y m w n u e in
         let same : date_of u ≡ t = ap (λ (r : OptionalDate). r.date) q in
         let i : IsNthWeekday y m w n (date_of u) = of-day u d in

@@ -1,32 +1,36 @@
 -- `market_sets::common_trading_day` meets its contract: error 12, the first common day past the check of the dates, and its error stays.
-use Rattle.std.proofs.Common.{ℕ, ap₂, sym, ◌∙◌, arith}
+use Rattle.std.proofs.Common.{ℕ, ap, ap₂, Ok, sym, ◌∙◌, arith, Option, Result}
 use Rattle.ranges.specs.Ranges.{days, find}
-use Rattle.error.specs.declared.OptionalDateResult.{OptionalDateResult}
-use Rattle.checks.proofs.CheckLaws.{past-range, past-range-error, check-passed, check-failed}
+use Rattle.checks.proofs.CheckLaws.{check-passed, check-failed}
+use Rattle.error.proofs.ErrorLaws.{past-ok, past-error}
 use Rattle.market_sets.specs.MarketSets.{is_common_trading_day, found_on}
 use Rattle.market_sets.proofs.SetLaws.{set-passes, no-set}
+use Rattle.std.proofs.lemmas.Result.{err_from_is_err_and}
 use Rattle.market_sets.proofs.common_trading_day.Goals as goal
+use Rattle.error.specs.declared.CalendarError.{CalendarError}
+use Rattle.gregorian.specs.declared.Date.{Date}
 
 pub returns-then-not-is_set : goal.returns-then-not-is_set
-returns-then-not-is_set c = past-range-error _ _ _ _ (sym (no-set _ _ _ (sym c.is_market_set-is_set.ensures ∙ c.if-not-is_set.true)))
+returns-then-not-is_set c = past-error _ _ _ (sym (no-set _ _ _ (sym c.is_market_set-is_set.ensures ∙ c.if-not-is_set.true)))
 
 pub calendar_day-first-requires : goal.calendar_day-first-requires
-calendar_day-first-requires c = (check-passed _ _ c.in-Ok.ensures).1.start-date
+calendar_day-first-requires c = (check-passed _ _ c.in_ok-checked_range.ensures).1.start-date
 
 pub day_number-last-requires : goal.day_number-last-requires
-day_number-last-requires c = (check-passed _ _ c.in-Ok.ensures).1.end-date
+day_number-last-requires c = (check-passed _ _ c.in_ok-checked_range.ensures).1.end-date
 
 pub first_common_day-requires : goal.first_common_day-requires
-first_common_day-requires c = (c.calendar_day-first.ensures.0, omega (arith, c.day_number-last.ensures, (check-passed _ _ c.in-Ok.ensures).1.in-years))
+first_common_day-requires c = (c.calendar_day-first.ensures.0, omega (arith, c.day_number-last.ensures, (check-passed _ _ c.in_ok-checked_range.ensures).1.in-years))
 
-pub returns-in-Ok : goal.returns-in-Ok
-returns-in-Ok c =
+pub returns : goal.returns
+returns c =
     let set = sym c.is_market_set-is_set.ensures ∙ c.if-not-is_set.false in
-    let found : ℕ → ℕ → OptionalDateResult = λ a b. found_on (find (is_common_trading_day c.args.markets) (days a b)) in
-    past-range _ _ _ _ _ _ (sym (set-passes _ _ _ set ∙ (check-passed _ _ c.in-Ok.ensures).0))
-    (c.first_common_day.ensures ∙ ap₂ found c.calendar_day-first.ensures.1 c.day_number-last.ensures)
+    let found : ℕ → ℕ → Result (Option Date) CalendarError = λ a b. found_on (find (is_common_trading_day c.args.markets) (days a b)) in
+    past-ok _ _ _ _ (sym (set-passes _ _ _ set ∙ (check-passed _ _ c.in_ok-checked_range.ensures).0))
+    (ap Ok (c.first_common_day.ensures) ∙ ap₂ found c.calendar_day-first.ensures.1 c.day_number-last.ensures)
 
-pub returns-in-Err : goal.returns-in-Err
-returns-in-Err c =
+pub returns-in_err-checked_range : goal.returns-in_err-checked_range
+returns-in_err-checked_range c =
     let set = sym c.is_market_set-is_set.ensures ∙ c.if-not-is_set.false in
-    past-range-error _ _ _ _ (check-failed _ _ _ c.in-Err.ensures ∙ sym (set-passes _ _ _ set))
+    let p = err_from_is_err_and c.from_residual.result c.from_residual.ensures.1 in
+    rw (p.1, p.2) (past-error _ _ _ (check-failed _ _ _ c.in_err-checked_range.ensures ∙ sym (set-passes _ _ _ set)))

@@ -1,8 +1,9 @@
 -- `market_sets::first_common_day` meets its contract: each turn of the loop is one day of the search.
-use Rattle.std.proofs.Common.{ℕ, ◌≡◌, suc, sym, ap, ◌∙◌, arith}
+use Rattle.std.proofs.Common.{ℕ, ◌≡◌, suc, sym, ap, ◌∙◌, arith, option_map}
+use Rattle.gregorian.specs.Calendar.{date_of}
 use Rattle.ranges.specs.Ranges.{days, find}
 use Rattle.ranges.proofs.Search.{from_past, from_found, from-passed}
-use Rattle.market_sets.specs.MarketSets.{is_common_trading_day, found_on}
+use Rattle.market_sets.specs.MarketSets.{is_common_trading_day}
 use Rattle.market_sets.proofs.SetLaws.{found-on}
 use Rattle.market_sets.proofs.first_common_day.Goals as goal
 
@@ -30,5 +31,5 @@ loop-day-preserved c =
 
 pub returns : goal.returns
 returns c =
-    ap found_on
+    ap (option_map date_of)
     (sym (c.loop-day.invariant.left ∙ from_past (is_common_trading_day c.args.markets) c.loop-day.day.number c.args.last (omega arith)))

@@ -3,7 +3,6 @@ use Prim.Native.Nat.{ℕ}
 use mathlib.Core.Path.{ap}
 use mathlib.Core.Bool.{◌||◌}
 use lib.Dec.{eqb}
-use borrow.Author.Rules.{rules}
 use Rattle.gregorian.specs.Calendar.{saturday, sunday}
 use Rattle.markets.specs.Markets.{is_weekend}
 use Rattle.markets.proofs.is_weekend.Goals as goal

@@ -12,7 +12,6 @@ ghost use Rattle.markets.specs.Inner.{canada_rules};
 use gregorian::days::CalendarDay;
 use gregorian::{MONDAY, SATURDAY, SUNDAY};
 use rule_days::{fixed_day, is_good_friday, is_observed, is_within, nth_weekday_for};
-use utils::OptionalDay;
 
 // Whether a day is a holiday of its year. On Monday if on a weekend: 1 January, 1 July and 25 December.
 pub fn is_canada_holiday(day: CalendarDay) -> bool
@@ -43,7 +42,7 @@ fn is_family_day(day: CalendarDay) -> bool
     if year < 2008 {
         return false;
     }
-    let OptionalDay::Day(family_day) = nth_weekday_for(day, 2, MONDAY, 3) else {
+    let Some(family_day) = nth_weekday_for(day, 2, MONDAY, 3) else {
         return false;
     };
     day.number == family_day
@@ -61,7 +60,7 @@ fn victoria_day(day: CalendarDay) -> u32
 fn is_labour_day(day: CalendarDay) -> bool
     ensures { result ≡ is_day (nth_weekday_of_month day.date.year 9 monday (pos 1)) day.number }
 {
-    let OptionalDay::Day(labour_day) = nth_weekday_for(day, 9, MONDAY, 1) else {
+    let Some(labour_day) = nth_weekday_for(day, 9, MONDAY, 1) else {
         return false;
     };
     day.number == labour_day
@@ -71,7 +70,7 @@ fn is_labour_day(day: CalendarDay) -> bool
 fn is_thanksgiving(day: CalendarDay) -> bool
     ensures { result ≡ is_day (nth_weekday_of_month day.date.year 10 monday (pos 2)) day.number }
 {
-    let OptionalDay::Day(thanksgiving) = nth_weekday_for(day, 10, MONDAY, 2) else {
+    let Some(thanksgiving) = nth_weekday_for(day, 10, MONDAY, 2) else {
         return false;
     };
     day.number == thanksgiving

@@ -14,7 +14,6 @@ use gregorian::{FRIDAY, MONDAY, SATURDAY, SUNDAY};
 use rule_days::{
     fixed_day, is_around_easter, is_good_friday, is_observed, is_within, nth_weekday_for,
 };
-use utils::OptionalDay;
 use utils::easter::calculate_easter_monday;
 
 // Whether a day is a holiday of its year. On Monday if on a weekend: 1 January.
@@ -41,7 +40,7 @@ fn is_easter_monday(day: CalendarDay) -> bool
     if !is_around_easter(day.date) {
         return false;
     }
-    let OptionalDay::Day(easter_monday) = calculate_easter_monday(day.date.year) else {
+    let Some(easter_monday) = calculate_easter_monday(day.date.year) else {
         return false;
     };
     day.number == easter_monday
@@ -51,7 +50,7 @@ fn is_easter_monday(day: CalendarDay) -> bool
 fn is_early_may_bank_holiday(day: CalendarDay) -> bool
     ensures { result ≡ is_day (nth_weekday_of_month day.date.year 5 monday (pos 1)) day.number }
 {
-    let OptionalDay::Day(early_may) = nth_weekday_for(day, 5, MONDAY, 1) else {
+    let Some(early_may) = nth_weekday_for(day, 5, MONDAY, 1) else {
         return false;
     };
     day.number == early_may
@@ -61,7 +60,7 @@ fn is_early_may_bank_holiday(day: CalendarDay) -> bool
 fn is_spring_bank_holiday(day: CalendarDay) -> bool
     ensures { result ≡ is_day (nth_weekday_of_month day.date.year 5 monday (minus 1)) day.number }
 {
-    let OptionalDay::Day(spring) = nth_weekday_for(day, 5, MONDAY, -1) else {
+    let Some(spring) = nth_weekday_for(day, 5, MONDAY, -1) else {
         return false;
     };
     day.number == spring
@@ -71,7 +70,7 @@ fn is_spring_bank_holiday(day: CalendarDay) -> bool
 fn is_summer_bank_holiday(day: CalendarDay) -> bool
     ensures { result ≡ is_day (nth_weekday_of_month day.date.year 8 monday (minus 1)) day.number }
 {
-    let OptionalDay::Day(summer) = nth_weekday_for(day, 8, MONDAY, -1) else {
+    let Some(summer) = nth_weekday_for(day, 8, MONDAY, -1) else {
         return false;
     };
     day.number == summer

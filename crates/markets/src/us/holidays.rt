@@ -11,7 +11,7 @@ ghost use Rattle.markets.specs.Inner.{us_rules};
 use gregorian::days::CalendarDay;
 use gregorian::{MONDAY, SATURDAY, SUNDAY, THURSDAY};
 use rule_days::{fixed_day, is_good_friday, is_observed, is_within, nth_weekday_for};
-use utils::{OptionalDay, nth_weekday_of_month};
+use utils::nth_weekday_of_month;
 
 // Whether a day is a holiday of its year. On Monday if on a weekend: 1 January and 25 December.
 pub fn is_us_holiday(day: CalendarDay) -> bool
@@ -38,7 +38,7 @@ pub fn is_us_holiday(day: CalendarDay) -> bool
 fn is_mlk_day(day: CalendarDay) -> bool
     ensures { result ≡ is_day (mlk_day day.date.year) day.number }
 {
-    let OptionalDay::Day(mlk_day) = nth_weekday_for(day, 1, MONDAY, 3) else {
+    let Some(mlk_day) = nth_weekday_for(day, 1, MONDAY, 3) else {
         return false;
     };
     day.number == mlk_day
@@ -48,7 +48,7 @@ fn is_mlk_day(day: CalendarDay) -> bool
 fn is_presidents_day(day: CalendarDay) -> bool
     ensures { result ≡ is_day (presidents_day day.date.year) day.number }
 {
-    let OptionalDay::Day(presidents_day) = nth_weekday_for(day, 2, MONDAY, 3) else {
+    let Some(presidents_day) = nth_weekday_for(day, 2, MONDAY, 3) else {
         return false;
     };
     day.number == presidents_day
@@ -58,7 +58,7 @@ fn is_presidents_day(day: CalendarDay) -> bool
 fn is_memorial_day(day: CalendarDay) -> bool
     ensures { result ≡ is_day (memorial_day day.date.year) day.number }
 {
-    let OptionalDay::Day(memorial_day) = nth_weekday_for(day, 5, MONDAY, -1) else {
+    let Some(memorial_day) = nth_weekday_for(day, 5, MONDAY, -1) else {
         return false;
     };
     day.number == memorial_day
@@ -104,14 +104,14 @@ fn is_independence_day(day: CalendarDay) -> bool
 fn is_labor_day(day: CalendarDay) -> bool
     ensures { result ≡ is_day (labor_day day.date.year) day.number }
 {
-    let OptionalDay::Day(labor_day) = nth_weekday_for(day, 9, MONDAY, 1) else {
+    let Some(labor_day) = nth_weekday_for(day, 9, MONDAY, 1) else {
         return false;
     };
     day.number == labor_day
 }
 
 // The 4th Thursday of November.
-pub fn thanksgiving_day(year: u32) -> OptionalDay
+pub fn thanksgiving_day(year: u32) -> Option<u32>
     ensures { result ≡ thanksgiving_day year }
 {
     nth_weekday_of_month(year, 11, THURSDAY, 4)
@@ -123,7 +123,7 @@ fn is_thanksgiving_day(day: CalendarDay) -> bool
     if gregorian::weekday(day.number) != THURSDAY {
         return false;
     }
-    let OptionalDay::Day(thanksgiving) = thanksgiving_day(day.date.year) else {
+    let Some(thanksgiving) = thanksgiving_day(day.date.year) else {
         return false;
     };
     day.number == thanksgiving

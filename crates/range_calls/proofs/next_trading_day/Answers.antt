@@ -5,7 +5,7 @@ use Rattle.range_calls.proofs.RangeLaws.{neighbour-is}
 use Rattle.range_calls.proofs.next_trading_day.Goals as goal
 
 pub next_trading_day-requires : goal.next_trading_day-requires
-next_trading_day-requires c = (day-checked _ _ _ _ _ (sym c.in-Ok.ensures)).same
+next_trading_day-requires c = (day-checked _ _ _ _ _ (sym c.in_ok-number.ensures)).same
 
-pub returns-in-Ok : goal.returns-in-Ok
-returns-in-Ok c = neighbour-is _ _ _ _ _ _ _ _ c.in-Ok.ensures c.next_trading_day.ensures c.trading_day_result.ensures
+pub returns : goal.returns
+returns c = neighbour-is _ _ _ _ _ _ _ _ c.in_ok-number.ensures c.next_trading_day.ensures c.trading_day_result.ensures

@@ -5,7 +5,7 @@ use Rattle.range_calls.proofs.RangeLaws.{neighbour-is}
 use Rattle.range_calls.proofs.previous_trading_day.Goals as goal
 
 pub previous_trading_day-requires : goal.previous_trading_day-requires
-previous_trading_day-requires c = (day-checked _ _ _ _ _ (sym c.in-Ok.ensures)).same
+previous_trading_day-requires c = (day-checked _ _ _ _ _ (sym c.in_ok-number.ensures)).same
 
-pub returns-in-Ok : goal.returns-in-Ok
-returns-in-Ok c = neighbour-is _ _ _ _ _ _ _ _ c.in-Ok.ensures c.previous_trading_day.ensures c.trading_day_result.ensures
+pub returns : goal.returns
+returns c = neighbour-is _ _ _ _ _ _ _ _ c.in_ok-number.ensures c.previous_trading_day.ensures c.trading_day_result.ensures

@@ -1,4 +1,5 @@
 -- `utils::nth_from_end` meets its contract: each return answers by the tests before it.
+use Rattle.std.proofs.Common.{Some}
 use Prim.Native.Nat.{ℕ, ◌-◌, ◌*◌, ◌≤◌}
 use mathlib.Core.Path.{◌≡◌, ap, sym, ◌∙◌, subst}
 use mathlib.Core.Bool.{true}
@@ -7,7 +8,6 @@ use borrow.Author.Tests.{lt-ltb, le-ltb}
 use lib.IntN.{negsuc}
 use Rattle.gregorian.specs.Calendar.{day_number, month_length, is_date}
 use Rattle.gregorian.proofs.Laws.{is-date, date-by, month-low}
-use Rattle.utils.specs.declared.OptionalDay.TheVariants.{Day}
 use Rattle.utils.specs.Inner.{InYears}
 use Rattle.utils.specs.Weekday.{last_up_to, weeks_before, weeks_before_last, most_nth, nth_weekday_of_month}
 use Rattle.utils.proofs.WeekdayLaws.{HasLast, last_found, end-without-next, end-early, week-from-end, nth-in-years}
@@ -47,7 +47,7 @@ returns-then-k-lt4 c =
     let r = c.weekday_up_to.ensures in
     let up_to_lem = r.0 ∙ ap (λ (n : ℕ). last_up_to a.weekday (day_number a.year a.month (n - 7 * a.k))) l.0 in
     let day = up_to_lem ∙ week-from-end a.year a.month a.weekday a.k h.is-weekday (omega (arith, l)) in (
-      simp (lt-ltb a.k most_nth (omega arith)) (ap Day day ∙ sym (end-early a.year a.month a.weekday a.k h (omega arith))),
+      simp (lt-ltb a.k most_nth (omega arith)) (ap Some day ∙ sym (end-early a.year a.month a.weekday a.k h (omega arith))),
       in-month _ _ _ h.is-month (omega (arith, r, l)) (omega (arith, r, l)),
     )
 

@@ -1,4 +1,5 @@
 -- `utils::nth_from_start` meets its contract: each return answers by the tests before it.
+use Rattle.std.proofs.Common.{Some}
 use Prim.Native.Nat.{◌+◌, ◌-◌, ◌*◌, ◌≤◌}
 use mathlib.Core.Path.{◌≡◌, ap, sym, ◌∙◌, subst}
 use native.Mathlib.Omega.{arith}
@@ -8,7 +9,6 @@ use Rattle.gregorian.specs.Calendar.{last_day}
 use Rattle.gregorian.proofs.Laws.{number-range, early-date}
 use Rattle.utils.specs.Weekday.{if_in_month, target_day, nth_from_start, most_nth, nth_weekday_of_month}
 use Rattle.utils.specs.Inner.{InYears}
-use Rattle.utils.specs.declared.OptionalDay.TheVariants.{Day}
 use Rattle.utils.proofs.WeekdayLaws.{nth-early, week-from-start, nth-in-years}
 use Rattle.utils.proofs.nth_from_start.Goals as goal
 
@@ -32,7 +32,7 @@ returns-then-n-lt5 c =
     let low : 1 ≤ a.n = omega arith in
     let high : a.n ≤ 4 = omega arith in
     let day = r.0 ∙ week-from-start a.year a.month a.weekday a.n p.1 low in (
-      simp (le-leb a.n most_nth (omega arith)) (ap Day day ∙ sym (nth-early a.year a.month a.weekday a.n p.0 p.1 low high)),
+      simp (le-leb a.n most_nth (omega arith)) (ap Some day ∙ sym (nth-early a.year a.month a.weekday a.n p.0 p.1 low high)),
       early-date _ _ _ p.0 (omega (arith, r.2, low)) (omega (arith, r.1, high)),
     )
 

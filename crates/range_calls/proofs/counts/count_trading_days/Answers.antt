@@ -1,24 +1,24 @@
 -- `range_calls::counts::count_trading_days` meets its contract: error 8, the count past the check of the dates, and its error stays.
-use Rattle.std.proofs.Common.{ℕ, ◌≡◌, true, ap, ap₂, sym, ◌∙◌, arith}
+use Rattle.std.proofs.Common.{ℕ, ◌≡◌, true, ap, ap₂, sym, ◌∙◌, arith, Ok}
 use Rattle.markets.specs.Markets.{is_market, is_trading_day}
 use Rattle.ranges.specs.Ranges.{count_trading_days}
-use Rattle.error.specs.declared.CountResult.{CountResult}
-use Rattle.checks.proofs.CheckLaws.{past-range, check-passed}
+use Rattle.error.proofs.ErrorLaws.{past-ok}
+use Rattle.checks.proofs.CheckLaws.{check-passed}
 use Rattle.range_calls.proofs.counts.count_trading_days.Goals as goal
 
 pub calendar_day-first-requires : goal.calendar_day-first-requires
-calendar_day-first-requires c = (check-passed _ _ c.in-Ok.ensures).1.start-date
+calendar_day-first-requires c = (check-passed _ _ c.in_ok-checked_range.ensures).1.start-date
 
 pub day_number-last-requires : goal.day_number-last-requires
-day_number-last-requires c = (check-passed _ _ c.in-Ok.ensures).1.end-date
+day_number-last-requires c = (check-passed _ _ c.in_ok-checked_range.ensures).1.end-date
 
 pub count-requires : goal.count-requires
-count-requires c = (c.calendar_day-first.ensures.0, omega (arith, c.day_number-last.ensures, (check-passed _ _ c.in-Ok.ensures).1.in-years))
+count-requires c = (c.calendar_day-first.ensures.0, omega (arith, c.day_number-last.ensures, (check-passed _ _ c.in_ok-checked_range.ensures).1.in-years))
 
-pub returns-in-Ok : goal.returns-in-Ok
-returns-in-Ok c =
+pub returns : goal.returns
+returns c =
     let known : is_market c.args.market ≡ true = cc in
     let counted : ℕ → ℕ → ℕ = count_trading_days (is_trading_day c.args.market) in
     simp known
-    (past-range _ _ _ _ _ _ (sym (check-passed _ _ c.in-Ok.ensures).0)
-    (ap CountResult.Ok (c.count.ensures ∙ ap₂ counted c.calendar_day-first.ensures.1 c.day_number-last.ensures)))
+    (past-ok _ _ _ _ (sym (check-passed _ _ c.in_ok-checked_range.ensures).0)
+    (ap Ok (c.count.ensures ∙ ap₂ counted c.calendar_day-first.ensures.1 c.day_number-last.ensures)))

@@ -8,4 +8,4 @@ pub write-requires : goal.write-requires
 write-requires c =
     let m = c.month_days-count in
     let days-are = listed _ _ _ m.result m.new.days (omega arith) m.ensures in
-    omega (arith, ap length days-are, count-is _ _ _ m.result m.new.days (omega arith) m.ensures, (room-checked _ _ _ (sym c.in-Ok.ensures)).1)
+    grind (arith, ap length days-are, count-is _ _ _ m.result m.new.days (omega arith) m.ensures, (room-checked _ _ _ (sym c.in_ok-n.ensures)).1)

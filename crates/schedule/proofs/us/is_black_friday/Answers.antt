@@ -9,4 +9,4 @@ use Rattle.schedule.proofs.us.is_black_friday.Goals as goal
 
 pub overflow_add-result : goal.overflow_add-result
 overflow_add-result c =
-    omega (arith, subst InYears (sym (sym c.in-Day.is ∙ c.thanksgiving_day.ensures)) (nth-in-years _ 11 thursday (pos 4)))
+    omega (arith, subst InYears (sym (sym c.in-Some.is ∙ c.thanksgiving_day.ensures)) (nth-in-years _ 11 thursday (pos 4)))

@@ -1,4 +1,5 @@
 -- `utils::easter::calculate_easter` meets its contract: so many days after 22 March.
+use Rattle.std.proofs.Common.{Some}
 use Prim.Native.Nat.{ℕ, ◌+◌, ◌≤◌}
 use mathlib.Core.Path.{◌≡◌, ap, sym, ◌∙◌}
 use mathlib.Core.Bool.{true}
@@ -6,7 +7,6 @@ use native.Mathlib.Omega.{arith}
 use borrow.Author.Tests.{lt-leb, le-leb}
 use Rattle.gregorian.specs.Calendar.{last_year, month_length, is_date}
 use Rattle.gregorian.proofs.Laws.{date-by, number-range}
-use Rattle.utils.specs.declared.OptionalDay.TheVariants.{Day}
 use Rattle.utils.specs.Easter.{calculate_easter}
 use Rattle.utils.proofs.EasterLaws.{easter-found}
 use Rattle.utils.proofs.easter.calculate_easter.Goals as goal
@@ -35,4 +35,4 @@ overflow_add-easter c =
 pub returns : goal.returns
 returns c =
     let day = ap (λ n. n + c.easter_days.result) c.day_number.ensures in
-    ap Day (day ∙ sym c.easter_days.ensures.0) ∙ sym (easter-found c.args.year (omega arith) (omega arith))
+    ap Some (day ∙ sym c.easter_days.ensures.0) ∙ sym (easter-found c.args.year (omega arith) (omega arith))

@@ -1,18 +1,8 @@
 -- `utils::easter::calculate_easter_monday` meets its contract: Easter is in years 1 to 9999, so the sum fits.
-use Prim.Native.Nat.{◌+◌}
 use mathlib.Core.Path.{sym}
 use native.Mathlib.Omega.{arith}
-use Rattle.utils.specs.Easter.{calculate_easter_monday}
-use Rattle.utils.proofs.EasterLaws.{after_none, after-day, easter-day}
+use Rattle.utils.proofs.EasterLaws.{easter-day}
 use Rattle.utils.proofs.easter.calculate_easter_monday.Goals as goal
 
-pub returns-in_default : goal.returns-in_default
-unfolding calculate_easter_monday
-returns-in_default c = after_none (λ n. n + 1) _ c.in_default.ensures
-
 pub overflow_add-result : goal.overflow_add-result
-overflow_add-result c = omega (arith, easter-day _ _ (sym c.in-Day.ensures))
-
-pub returns : goal.returns
-unfolding calculate_easter_monday
-returns c = after-day (λ n. n + 1) _ _ c.in-Day.ensures
+overflow_add-result c = omega (arith, easter-day _ _ (sym c.in_ok-easter.ensures))
