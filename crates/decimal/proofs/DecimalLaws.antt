@@ -89,6 +89,9 @@ write-more n buffer out k h fits e q =
     let longer = length_more n h in
     (omega arith, rw (decimal-more n h, q) (overwrite-byte (decimal (n / 10)) buffer (48 + n % 10) k (sym e) (omega arith)))
 
+-- what the writer of a number needs
+pub ruleset written = (length-one, length_more, write-one, write-more)
+
 -- ---- as a digit string
 
 -- All its bytes are digits.

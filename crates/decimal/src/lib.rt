@@ -18,6 +18,7 @@ pub fn digits(value: u32) -> usize
 
 // [sheet-numbers]: writes the number to the start of the buffer, and answers how many digits it has. The digits of a tenth of it
 // come first, and then the last one. It recurses as docs/SCOPE.md [forms] asks of the printer.
+#[tactic(auto, using(crate::proofs::DecimalLaws::written))]
 pub fn write(value: u32, out: &mut [u8]) -> usize
     requires { length (decimal value) ≤ length out.old }
     ensures { (result ≡ length (decimal value)) × (out.new ≡ overwrite (decimal value) out.old) }
