@@ -28,10 +28,7 @@ fn month_goes_on(date: Date) -> bool
     requires { is_date_of date ≡ true }
     ensures { result ≡ ltb date.day (month_length date.year date.month) }
 {
-    if date.day < 28 {
-        return true;
-    }
-    date.day < days_in_month(date.year, date.month)
+    date.day < 28 || date.day < days_in_month(date.year, date.month)
 }
 
 fn date_after(date: Date) -> Date
@@ -40,16 +37,15 @@ fn date_after(date: Date) -> Date
 {
     if month_goes_on(date) {
         return Date {
-            year: date.year,
-            month: date.month,
             day: date.day + 1,
+            ..date
         };
     }
     if date.month < 12 {
         return Date {
-            year: date.year,
             month: date.month + 1,
             day: 1,
+            ..date
         };
     }
     Date {
@@ -65,16 +61,15 @@ fn date_before(date: Date) -> Date
 {
     if 1 < date.day {
         return Date {
-            year: date.year,
-            month: date.month,
             day: date.day - 1,
+            ..date
         };
     }
     if 1 < date.month {
         return Date {
-            year: date.year,
             month: date.month - 1,
             day: days_in_month(date.year, date.month - 1),
+            ..date
         };
     }
     Date {
