@@ -5,7 +5,7 @@
 ghost use Rattle.std.specs.Prelude.{◌≡◌, option_map};
 ghost use Rattle.all_years.specs.AllYears.{known_day, day_answer};
 
-use gregorian::days::{CalendarDay, calendar_day};
+use gregorian::days::CalendarDay;
 
 // Where there is no such market or no such date, every field is false.
 #[repr(C)]
@@ -25,7 +25,7 @@ fn known_day(market: u32, year: u32, month: u32, day: u32) -> Option<CalendarDay
         return None;
     }
     if gregorian::is_date(year, month, day) {
-        Some(calendar_day(year, month, day))
+        Some(CalendarDay::new(Date { year, month, day }))
     } else {
         None
     }

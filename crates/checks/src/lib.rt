@@ -9,7 +9,7 @@ ghost use Rattle.checks.specs.Checks.{leaves_years, checked_range, checked_room}
 ghost use Rattle.checks.specs.Inner.{check_of};
 
 use error::CalendarError;
-use gregorian::days::{CalendarDay, calendar_day};
+use gregorian::days::CalendarDay;
 use gregorian::{Date, is_date};
 use markets::is_market;
 use markets::years::{MAX_YEAR, MIN_YEAR, is_supported};
@@ -38,7 +38,7 @@ pub fn checked_day(market: u32, date: Date) -> Result<CalendarDay, CalendarError
     if !is_date {
         return Err(CalendarError::InvalidDate);
     }
-    Ok(calendar_day(date.year, date.month, date.day))
+    Ok(CalendarDay::new(date))
 }
 
 // Errors 8, 5, 7 and 1, or the day. A call that takes no time has none out of range.

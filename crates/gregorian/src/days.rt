@@ -13,13 +13,35 @@ pub struct CalendarDay {
     pub ghost same: { date ≡ date_of number },
 }
 
-pub fn calendar_day(year: u32, month: u32, day: u32) -> CalendarDay
-    requires { is_date year month day ≡ true }
-    ensures { result.number ≡ day_number year month day }
-{
-    CalendarDay {
-        number: day_number(year, month, day),
-        date: Date { year, month, day },
+impl CalendarDay {
+    pub fn new(date: Date) -> Self
+        requires { is_date_of date ≡ true }
+        ensures { result.number ≡ number date }
+    {
+        CalendarDay {
+            number: day_number(date.year, date.month, date.day),
+            date,
+        }
+    }
+
+    pub fn next_day(self) -> Self
+        requires { self.number + 1 ≤ last_day }
+        ensures { result.number ≡ self.number + 1 }
+    {
+        CalendarDay {
+            number: self.number + 1,
+            date: date_after(self.date),
+        }
+    }
+
+    pub fn previous_day(self) -> Self
+        requires { 2 ≤ self.number }
+        ensures { result.number ≡ self.number - 1 }
+    {
+        CalendarDay {
+            number: self.number - 1,
+            date: date_before(self.date),
+        }
     }
 }
 
@@ -31,7 +53,8 @@ fn month_goes_on(date: Date) -> bool
     date.day < 28 || date.day < days_in_month(date.year, date.month)
 }
 
-fn date_after(date: Date) -> Date
+// Also of 9999-12-31, whose day after no search asks for.
+pub fn date_after(date: Date) -> Date
     requires { is_date_of date ≡ true }
     ensures { result ≡ day_after date }
 {
@@ -76,25 +99,5 @@ fn date_before(date: Date) -> Date
         year: date.year - 1,
         month: 12,
         day: 31,
-    }
-}
-
-pub fn day_after(day: CalendarDay) -> CalendarDay
-    requires { day.number + 1 ≤ last_day }
-    ensures { result.number ≡ day.number + 1 }
-{
-    CalendarDay {
-        number: day.number + 1,
-        date: date_after(day.date),
-    }
-}
-
-pub fn day_before(day: CalendarDay) -> CalendarDay
-    requires { 2 ≤ day.number }
-    ensures { result.number ≡ day.number - 1 }
-{
-    CalendarDay {
-        number: day.number - 1,
-        date: date_before(day.date),
     }
 }

@@ -92,7 +92,7 @@ fn is_bridge_day(day: CalendarDay) -> bool
     ensures { result ≡ is_bridge_day day.date.year day.number }
 {
     let n = day.number;
-    if !is_within(day, 5, 2, 4) {
+    if !is_within(day.date, 5, 2, 4) {
         return false;
     }
     let may_2 = fixed_day(day, 5, 2);
@@ -109,7 +109,7 @@ fn is_bridge_day(day: CalendarDay) -> bool
 fn is_coming_of_age_day(day: CalendarDay) -> bool
     ensures { result ≡ is_day (nth_weekday_of_month day.date.year 1 monday (pos 2)) day.number }
 {
-    let Some(coming_of_age_day) = nth_weekday_for(day, 1, MONDAY, 2) else {
+    let Some(coming_of_age_day) = nth_weekday_for(day.number, day.date.year, 1, MONDAY, 2) else {
         return false;
     };
     day.number == coming_of_age_day
@@ -119,7 +119,7 @@ fn is_coming_of_age_day(day: CalendarDay) -> bool
 fn is_marine_day(day: CalendarDay) -> bool
     ensures { result ≡ is_day (nth_weekday_of_month day.date.year 7 monday (pos 3)) day.number }
 {
-    let Some(marine_day) = nth_weekday_for(day, 7, MONDAY, 3) else {
+    let Some(marine_day) = nth_weekday_for(day.number, day.date.year, 7, MONDAY, 3) else {
         return false;
     };
     day.number == marine_day
@@ -129,7 +129,7 @@ fn is_marine_day(day: CalendarDay) -> bool
 fn is_respect_for_aged_day(day: CalendarDay) -> bool
     ensures { result ≡ is_day (nth_weekday_of_month day.date.year 9 monday (pos 3)) day.number }
 {
-    let Some(respect_for_aged_day) = nth_weekday_for(day, 9, MONDAY, 3) else {
+    let Some(respect_for_aged_day) = nth_weekday_for(day.number, day.date.year, 9, MONDAY, 3) else {
         return false;
     };
     day.number == respect_for_aged_day
@@ -139,7 +139,7 @@ fn is_respect_for_aged_day(day: CalendarDay) -> bool
 fn is_health_and_sports_day(day: CalendarDay) -> bool
     ensures { result ≡ is_day (nth_weekday_of_month day.date.year 10 monday (pos 2)) day.number }
 {
-    let Some(sports_day) = nth_weekday_for(day, 10, MONDAY, 2) else {
+    let Some(sports_day) = nth_weekday_for(day.number, day.date.year, 10, MONDAY, 2) else {
         return false;
     };
     day.number == sports_day

@@ -9,7 +9,7 @@ ghost use Rattle.market_sets.specs.Inner.{first_common_day_result};
 
 use checks::checked_range;
 use error::CalendarError;
-use gregorian::days::{CalendarDay, calendar_day};
+use gregorian::days::CalendarDay;
 use gregorian::{Date, day_number, is_date};
 use markets::{LAST_MARKET, is_trading_day};
 use ranges::Days;
@@ -76,7 +76,7 @@ pub fn common_trading_day(
         return Err(CalendarError::InvalidMarketSet);
     }
     checked_range(starts, ends, start, end)?;
-    let first = calendar_day(start.year, start.month, start.day);
+    let first = CalendarDay::new(start);
     let last = day_number(end.year, end.month, end.day);
     Ok(date_of_found(first_common_day(markets, first, last)))
 }

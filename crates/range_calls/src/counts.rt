@@ -7,7 +7,7 @@ ghost use Rattle.range_calls.specs.RangeCalls.{trading_days_in_month_result, tra
 
 use checks::{checked_month, checked_range, checked_room};
 use error::CalendarError;
-use gregorian::days::calendar_day;
+use gregorian::days::CalendarDay;
 use gregorian::{Date, day_number, is_date};
 use trading_days::LONGEST_MONTH;
 
@@ -51,7 +51,7 @@ pub fn count_trading_days(market: u32, start: Date, end: Date) -> Result<u32, Ca
         return Err(CalendarError::UnknownMarket);
     }
     checked_range(starts, ends, start, end)?;
-    let first = calendar_day(start.year, start.month, start.day);
+    let first = CalendarDay::new(start);
     let last = day_number(end.year, end.month, end.day);
     Ok(trading_days::count(market, first, last))
 }

@@ -6,7 +6,7 @@ ghost use Rattle.std.specs.Iterator.{YieldsFirstBy, item_count};
 ghost use Rattle.gregorian.specs.Calendar.{last_day};
 ghost use Rattle.ranges.specs.Ranges.{days};
 
-use gregorian::days::{CalendarDay, day_after, day_before};
+use gregorian::days::CalendarDay;
 
 // The days from day number `next` to `last`, both included. `day` is the day before `next` or, at first, that day itself: so a step is
 // one compare and `day_after`, and none goes beyond `last`.
@@ -31,7 +31,7 @@ impl Iterator for Days {
             return None;
         }
         let day = if self.day.number < self.next {
-            day_after(self.day)
+            self.day.next_day()
         } else {
             self.day
         };
@@ -86,7 +86,7 @@ impl Iterator for DaysBefore {
         if self.day.number <= self.first {
             return None;
         }
-        self.day = day_before(self.day);
+        self.day = self.day.previous_day();
         Some(self.day)
     }
 }

@@ -10,7 +10,7 @@ use lib.IntN.{ℤ}
 use native.Mathlib.Omega.{arith}
 use native.Mathlib.Decide.{dec_le, dec_lt}
 use borrow.Author.Tests.{leb-true, eqb-true, eq-eqb, ne_eqb, le-leb, lt-leb, not-true}
-use Rattle.gregorian.specs.Calendar.{month_length, total, day_number, last_year, last_day, is_date, date}
+use Rattle.gregorian.specs.Calendar.{number, month_length, total, day_number, last_year, is_date, date}
 use Rattle.gregorian.specs.declared.Date.{Date}
 use Rattle.gregorian.specs.declared.days.CalendarDay.{CalendarDay}
 use Rattle.gregorian.specs.Inner.{Exists}
@@ -92,16 +92,21 @@ one-order a b c d f g = elim (dec_le a b) [
     not-le : (i j : ℕ) → (i ≤ j → ⊥) → leb i j ≡ false
     not-le i j h = lt-leb i j (omega arith)
 
-pub same-within : (day : CalendarDay) (m a k : ℕ) → day.date.month ≡ m
-    → (let from = day_number day.date.year m a in is_between a (a + k) day.date.day ≡ is_between from (from + k) day.number)
+pub same-within : (t : Date) (m a k : ℕ) → t.month ≡ m
+    → (let from = day_number t.year m a in is_between a (a + k) t.day ≡ is_between from (from + k) (number t))
 unfolding day_number
-same-within day m a k e =
-    let d = day.date.day in
-    let from = day_number day.date.year m a in
-    let n = sym (number_is day) ∙ ap (λ (i : ℕ). day_number day.date.year i d) e in
-    let low = one-order a d from day.number (λ l. omega (arith, n, l)) (λ l. omega (arith, n, l)) in
-    let high = one-order d (a + k) day.number (from + k) (λ l. omega (arith, n, l)) (λ l. omega (arith, n, l)) in
+same-within t m a k e =
+    let d = t.day in
+    let from = day_number t.year m a in
+    let n : number t ≡ day_number t.year m d = ap (λ (i : ℕ). day_number t.year i d) e in
+    let low = one-order a d from (number t) (λ l. omega (arith, n, l)) (λ l. omega (arith, n, l)) in
+    let high = one-order d (a + k) (number t) (from + k) (λ l. omega (arith, n, l)) (λ l. omega (arith, n, l)) in
     λ j. low j && high j
+
+-- of a day, by its number
+pub is-away : (day : CalendarDay) (from to : ℕ) (within : Bool) → within ≡ is_between from to (number day.date) → within ≡ false
+    → is_between from to day.number ≡ false
+is-away day from to within e f = ap (is_between from to) (sym (number_is day)) ∙ sym e ∙ f
 
 module _ (day : CalendarDay) where
   abbrev n : ℕ

@@ -3,7 +3,7 @@
 #![tactic(auto)]
 
 ghost use Rattle.std.specs.Prelude.{◌≡◌, ◌+◌, ◌≤◌, eqb};
-ghost use Rattle.gregorian.specs.Calendar.{last_day, day_number};
+ghost use Rattle.gregorian.specs.Calendar.{number, last_day, day_number};
 ghost use Rattle.utils.specs.Weekday.{nth_weekday_of_month};
 ghost use Rattle.utils.specs.Easter.{calculate_good_friday};
 ghost use Rattle.rule_days.specs.Days.{is_day, adjust_for_weekend};
@@ -34,12 +34,12 @@ fn adjust_for_weekend(n: u32) -> u32
     }
 }
 
-// Whether a day is day `first` of the month or one of the k days after it.
-pub fn is_within(day: CalendarDay, month: u32, first: u32, k: u32) -> bool
-    requires { (day.date.month ≡ month) × (first ≤ 31) × (k ≤ 31) }
-    ensures { let from = day_number day.date.year month first in result ≡ is_between from (from + k) day.number }
+// Whether a date is day `first` of the month or one of the k days after it.
+pub fn is_within(date: Date, month: u32, first: u32, k: u32) -> bool
+    requires { (date.month ≡ month) × (first ≤ 31) × (k ≤ 31) }
+    ensures { let from = day_number date.year month first in result ≡ is_between from (from + k) (number date) }
 {
-    (first <= day.date.day) & (day.date.day <= first + k)
+    (first <= date.day) & (date.day <= first + k)
 }
 
 // Whether a day is day d of the month or, from a weekend, the Monday that it moves to. Only that day and the two after it are
@@ -48,21 +48,21 @@ pub fn is_observed(day: CalendarDay, month: u32, d: u32) -> bool
     requires { (day.date.month ≡ month) × (d ≤ 31) }
     ensures { result ≡ eqb day.number (adjust_for_weekend (day_number day.date.year month d)) }
 {
-    if !is_within(day, month, d, 2) {
+    if !is_within(day.date, month, d, 2) {
         return false;
     }
     day.number == adjust_for_weekend(fixed_day(day, month, d))
 }
 
-// The nth weekday of a month of the day's year, from its end where nth is below 0, for a day on that weekday. For another it is not
+// The nth weekday of a month of the year, from its end where nth is below 0, for day n if that is on the weekday. For another it is not
 // computed, and none.
-pub fn nth_weekday_for(day: CalendarDay, month: u32, weekday: u32, nth: i32) -> Option<u32>
-    ensures { is_day result day.number ≡ is_day (nth_weekday_of_month day.date.year month weekday nth) day.number }
+pub fn nth_weekday_for(n: u32, year: u32, month: u32, weekday: u32, nth: i32) -> Option<u32>
+    ensures { is_day result n ≡ is_day (nth_weekday_of_month year month weekday nth) n }
 {
-    if gregorian::weekday(day.number) != weekday {
+    if gregorian::weekday(n) != weekday {
         return None;
     }
-    nth_weekday_of_month(day.date.year, month, weekday, nth)
+    nth_weekday_of_month(year, month, weekday, nth)
 }
 
 // From 20 March to 26 April. Easter is from 22 March to 25 April, so on other days it need not be computed.

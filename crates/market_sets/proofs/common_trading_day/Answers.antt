@@ -14,8 +14,8 @@ use Rattle.gregorian.specs.declared.Date.{Date}
 pub returns-then-not-is_set : goal.returns-then-not-is_set
 returns-then-not-is_set c = past-error _ _ _ (sym (no-set _ _ _ (sym c.is_market_set-is_set.ensures ∙ c.if-not-is_set.true)))
 
-pub calendar_day-first-requires : goal.calendar_day-first-requires
-calendar_day-first-requires c = (check-passed _ _ c.in_ok-checked_range.ensures).1.start-date
+pub new-first-requires : goal.new-first-requires
+new-first-requires c = (check-passed _ _ c.in_ok-checked_range.ensures).1.start-date
 
 pub day_number-last-requires : goal.day_number-last-requires
 day_number-last-requires c = (check-passed _ _ c.in_ok-checked_range.ensures).1.end-date
@@ -28,7 +28,7 @@ returns c =
     let set = sym c.is_market_set-is_set.ensures ∙ c.if-not-is_set.false in
     let found : ℕ → ℕ → Result (Option Date) CalendarError = λ a b. found_on (find (is_common_trading_day c.args.markets) (days a b)) in
     past-ok _ _ _ _ (sym (set-passes _ _ _ set ∙ (check-passed _ _ c.in_ok-checked_range.ensures).0))
-    (ap Ok (c.date_of_found.ensures ∙ ap (option_map date_of) c.first_common_day.ensures) ∙ ap₂ found c.calendar_day-first.ensures c.day_number-last.ensures)
+    (ap Ok (c.date_of_found.ensures ∙ ap (option_map date_of) c.first_common_day.ensures) ∙ ap₂ found c.new-first.ensures c.day_number-last.ensures)
 
 pub returns-in_err-checked_range : goal.returns-in_err-checked_range
 returns-in_err-checked_range c =

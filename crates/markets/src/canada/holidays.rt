@@ -40,7 +40,7 @@ fn is_family_day(day: CalendarDay) -> bool
     if year < 2008 {
         return false;
     }
-    let Some(family_day) = nth_weekday_for(day, 2, MONDAY, 3) else {
+    let Some(family_day) = nth_weekday_for(day.number, day.date.year, 2, MONDAY, 3) else {
         return false;
     };
     day.number == family_day
@@ -58,7 +58,7 @@ fn victoria_day(day: CalendarDay) -> u32
 fn is_labour_day(day: CalendarDay) -> bool
     ensures { result ≡ is_day (nth_weekday_of_month day.date.year 9 monday (pos 1)) day.number }
 {
-    let Some(labour_day) = nth_weekday_for(day, 9, MONDAY, 1) else {
+    let Some(labour_day) = nth_weekday_for(day.number, day.date.year, 9, MONDAY, 1) else {
         return false;
     };
     day.number == labour_day
@@ -68,7 +68,7 @@ fn is_labour_day(day: CalendarDay) -> bool
 fn is_thanksgiving(day: CalendarDay) -> bool
     ensures { result ≡ is_day (nth_weekday_of_month day.date.year 10 monday (pos 2)) day.number }
 {
-    let Some(thanksgiving) = nth_weekday_for(day, 10, MONDAY, 2) else {
+    let Some(thanksgiving) = nth_weekday_for(day.number, day.date.year, 10, MONDAY, 2) else {
         return false;
     };
     day.number == thanksgiving
@@ -92,7 +92,7 @@ fn is_boxing_day(day: CalendarDay) -> bool
     requires { day.date.month ≡ 12 }
     ensures { result ≡ eqb day.number (boxing_day day.date.year) }
 {
-    if !is_within(day, 12, 26, 2) {
+    if !is_within(day.date, 12, 26, 2) {
         return false;
     }
     day.number == boxing_day(day)

@@ -41,7 +41,7 @@ fn is_easter_monday(day: CalendarDay) -> bool
 fn is_early_may_bank_holiday(day: CalendarDay) -> bool
     ensures { result ≡ is_day (nth_weekday_of_month day.date.year 5 monday (pos 1)) day.number }
 {
-    let Some(early_may) = nth_weekday_for(day, 5, MONDAY, 1) else {
+    let Some(early_may) = nth_weekday_for(day.number, day.date.year, 5, MONDAY, 1) else {
         return false;
     };
     day.number == early_may
@@ -51,7 +51,7 @@ fn is_early_may_bank_holiday(day: CalendarDay) -> bool
 fn is_spring_bank_holiday(day: CalendarDay) -> bool
     ensures { result ≡ is_day (nth_weekday_of_month day.date.year 5 monday (minus 1)) day.number }
 {
-    let Some(spring) = nth_weekday_for(day, 5, MONDAY, -1) else {
+    let Some(spring) = nth_weekday_for(day.number, day.date.year, 5, MONDAY, -1) else {
         return false;
     };
     day.number == spring
@@ -61,7 +61,7 @@ fn is_spring_bank_holiday(day: CalendarDay) -> bool
 fn is_summer_bank_holiday(day: CalendarDay) -> bool
     ensures { result ≡ is_day (nth_weekday_of_month day.date.year 8 monday (minus 1)) day.number }
 {
-    let Some(summer) = nth_weekday_for(day, 8, MONDAY, -1) else {
+    let Some(summer) = nth_weekday_for(day.number, day.date.year, 8, MONDAY, -1) else {
         return false;
     };
     day.number == summer
@@ -73,7 +73,7 @@ fn is_christmas_or_boxing_day(day: CalendarDay) -> bool
     requires { day.date.month ≡ 12 }
     ensures { result ≡ is_christmas_or_boxing_day day.date.year day.number }
 {
-    if !is_within(day, 12, 25, 3) {
+    if !is_within(day.date, 12, 25, 3) {
         return false;
     }
     let n = day.number;

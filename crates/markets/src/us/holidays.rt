@@ -36,7 +36,7 @@ pub fn is_us_holiday(day: CalendarDay) -> bool
 fn is_mlk_day(day: CalendarDay) -> bool
     ensures { result ≡ is_day (mlk_day day.date.year) day.number }
 {
-    let Some(mlk_day) = nth_weekday_for(day, 1, MONDAY, 3) else {
+    let Some(mlk_day) = nth_weekday_for(day.number, day.date.year, 1, MONDAY, 3) else {
         return false;
     };
     day.number == mlk_day
@@ -46,7 +46,7 @@ fn is_mlk_day(day: CalendarDay) -> bool
 fn is_presidents_day(day: CalendarDay) -> bool
     ensures { result ≡ is_day (presidents_day day.date.year) day.number }
 {
-    let Some(presidents_day) = nth_weekday_for(day, 2, MONDAY, 3) else {
+    let Some(presidents_day) = nth_weekday_for(day.number, day.date.year, 2, MONDAY, 3) else {
         return false;
     };
     day.number == presidents_day
@@ -56,7 +56,7 @@ fn is_presidents_day(day: CalendarDay) -> bool
 fn is_memorial_day(day: CalendarDay) -> bool
     ensures { result ≡ is_day (memorial_day day.date.year) day.number }
 {
-    let Some(memorial_day) = nth_weekday_for(day, 5, MONDAY, -1) else {
+    let Some(memorial_day) = nth_weekday_for(day.number, day.date.year, 5, MONDAY, -1) else {
         return false;
     };
     day.number == memorial_day
@@ -92,7 +92,7 @@ fn is_independence_day(day: CalendarDay) -> bool
     requires { day.date.month ≡ 7 }
     ensures { result ≡ eqb day.number (independence_day day.date.year) }
 {
-    if !is_within(day, 7, 3, 2) {
+    if !is_within(day.date, 7, 3, 2) {
         return false;
     }
     day.number == independence_day(day)
@@ -102,7 +102,7 @@ fn is_independence_day(day: CalendarDay) -> bool
 fn is_labor_day(day: CalendarDay) -> bool
     ensures { result ≡ is_day (labor_day day.date.year) day.number }
 {
-    let Some(labor_day) = nth_weekday_for(day, 9, MONDAY, 1) else {
+    let Some(labor_day) = nth_weekday_for(day.number, day.date.year, 9, MONDAY, 1) else {
         return false;
     };
     day.number == labor_day

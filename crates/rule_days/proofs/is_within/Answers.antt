@@ -3,4 +3,4 @@ use Rattle.rule_days.proofs.RuleMonths.{same-within}
 use Rattle.rule_days.proofs.is_within.Goals as goal
 
 pub returns : goal.returns
-returns c = same-within c.args.day _ _ _ c.requires.0
+returns c = same-within c.args.date _ _ _ c.requires.0

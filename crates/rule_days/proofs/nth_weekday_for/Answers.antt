@@ -6,4 +6,4 @@ use Rattle.rule_days.proofs.nth_weekday_for.Goals as goal
 pub returns-then-weekday : goal.returns-then-weekday
 returns-then-weekday c =
     let a = c.args in
-    not-nth a.day.date.year a.month a.weekday a.nth a.day.number (λ e. c.if-weekday.true (c.weekday.ensures ∙ e))
+    not-nth a.year a.month a.weekday a.nth a.n (λ e. c.if-weekday.true (c.weekday.ensures ∙ e))

@@ -1,14 +1,15 @@
 -- `japan::holidays::is_bridge_day` meets its contract: other days, and the tests, one by one.
-use mathlib.Core.Path.{ap, sym, ◌∙◌}
+use mathlib.Core.Path.{ap, ◌∙◌}
 use mathlib.Core.Bool.{◌&&◌, ◌||◌}
 use lib.Dec.{eqb}
 use Rattle.gregorian.specs.Calendar.{tuesday, thursday, sunday, weekday_of}
 use Rattle.japan.specs.Inner.{is_bridge_day}
 use Rattle.japan.proofs.JapanLaws.{not-bridge-day}
+use Rattle.rule_days.proofs.RuleMonths.{is-away}
 use Rattle.japan.proofs.holidays.is_bridge_day.Goals as goal
 
 pub returns-then-not-is_within : goal.returns-then-not-is_within
-returns-then-not-is_within c = not-bridge-day _ _ (sym c.is_within.ensures ∙ c.if-not-is_within.true)
+returns-then-not-is_within c = not-bridge-day _ _ (is-away c.args.day _ _ _ c.is_within.ensures c.if-not-is_within.true)
 
 pub returns : goal.returns
 unfolding is_bridge_day

@@ -6,8 +6,8 @@ use Rattle.error.proofs.ErrorLaws.{past-ok}
 use Rattle.checks.proofs.CheckLaws.{check-passed}
 use Rattle.range_calls.proofs.counts.count_trading_days.Goals as goal
 
-pub calendar_day-first-requires : goal.calendar_day-first-requires
-calendar_day-first-requires c = (check-passed _ _ c.in_ok-checked_range.ensures).1.start-date
+pub new-first-requires : goal.new-first-requires
+new-first-requires c = (check-passed _ _ c.in_ok-checked_range.ensures).1.start-date
 
 pub day_number-last-requires : goal.day_number-last-requires
 day_number-last-requires c = (check-passed _ _ c.in_ok-checked_range.ensures).1.end-date
@@ -21,4 +21,4 @@ returns c =
     let counted : ℕ → ℕ → ℕ = count_trading_days (is_trading_day c.args.market) in
     simp known
     (past-ok _ _ _ _ (sym (check-passed _ _ c.in_ok-checked_range.ensures).0)
-    (ap Ok (c.count.ensures ∙ ap₂ counted c.calendar_day-first.ensures c.day_number-last.ensures)))
+    (ap Ok (c.count.ensures ∙ ap₂ counted c.new-first.ensures c.day_number-last.ensures)))

@@ -12,6 +12,6 @@ returns-then-self-clause-steps c =
 pub returns : goal.returns
 returns c =
     let s = c.args.self.now in
-    let last = day-last s.first (s.day.number - 1) c.day_before-self.result.number (omega (arith, s.low)) (omega arith) (omega (arith, c.day_before-self.ensures)) in
+    let last = day-last s.first (s.day.number - 1) c.previous_day-self.result.number (omega (arith, s.low)) (omega arith) (omega (arith, c.previous_day-self.ensures)) in
     let fewer = ap length last in
     record { steps = last; goes = search rules }

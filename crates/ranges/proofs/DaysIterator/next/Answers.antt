@@ -14,7 +14,7 @@ pub returns : goal.returns
 returns c =
     let s = c.args.self.now in
     let day : c.if-self-2.day.number ≡ s.next = elim c.if-self-2.branch [
-      | then-self-2 w ↦ omega (arith, ap (λ (day : CalendarDay). day.number) w.day-is, w.day_after-day.ensures, s.near)
+      | then-self-2 w ↦ omega (arith, ap (λ (day : CalendarDay). day.number) w.day-is, w.next_day-day.ensures, s.near)
       | else-self-2 w ↦ omega (arith, ap (λ (day : CalendarDay). day.number) w.day-is, s.near)
     ] in
     let first = day-first s.next s.last c.if-self-2.day.number c.if-self.false day in

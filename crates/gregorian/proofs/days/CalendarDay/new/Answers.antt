@@ -1,6 +1,6 @@
--- `gregorian::days::calendar_day` meets its contract: a date and its number.
+-- `gregorian::days::CalendarDay::new` meets its contract: a date and its number.
 use Rattle.gregorian.proofs.DaySteps.{numbered}
-use Rattle.gregorian.proofs.days.calendar_day.Goals as goal
+use Rattle.gregorian.proofs.days.CalendarDay.new.Goals as goal
 
 pub invariant_of-result : goal.invariant_of-result
 invariant_of-result c =
