@@ -12,7 +12,7 @@ use lib.IntN.{pos}
 use native.Mathlib.Omega.{arith}
 use native.Mathlib.Nat.{eq-or-lt_of_le, le_of_suc-le-suc}
 use borrow.Author.Tests.{leb-true, ltb-true, eqb-true, ne_eqb}
-use Rattle.gregorian.specs.Calendar.{monday, friday, sunday, day_number, last_year, last_day, weekday_of, date}
+use Rattle.gregorian.specs.Calendar.{monday, friday, sunday, day_number, last_year, weekday_of, date}
 use Rattle.gregorian.specs.declared.days.CalendarDay.{CalendarDay}
 use Rattle.gregorian.proofs.Tests.{and_left, and_right, and-false}
 use Rattle.gregorian.proofs.Laws.{days-on, is-date, number-before}

@@ -9,7 +9,6 @@ use native.Mathlib.Omega.{arith}
 use native.Mathlib.Decide.{dec_lt}
 use Rattle.gregorian.specs.declared.Date.{Date}
 use Rattle.gregorian.specs.declared.days.CalendarDay.{CalendarDay}
-use Rattle.gregorian.specs.Calendar.{last_day}
 use Rattle.gregorian.proofs.Total.{upto}
 use Rattle.rule_days.specs.Days.{contains}
 use Rattle.rule_days.specs.Inner.{any_of}

@@ -8,7 +8,7 @@ use lib.Dec.{eqb, lit≤}
 use lib.IntN.{pos}
 use native.Mathlib.Omega.{arith}
 use borrow.Author.Tests.{eqb-true, eqb-false, ne_eqb}
-use Rattle.gregorian.specs.Calendar.{monday, friday, saturday, sunday, last_day, day_number, weekday_of}
+use Rattle.gregorian.specs.Calendar.{monday, friday, saturday, sunday, day_number, weekday_of}
 use Rattle.gregorian.proofs.Laws.{days-on}
 use Rattle.gregorian.proofs.Weekdays.{weekday-after}
 use Rattle.gregorian.specs.declared.days.CalendarDay.{CalendarDay}

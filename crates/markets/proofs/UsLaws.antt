@@ -1,13 +1,13 @@
 -- The holidays of the US by their months.
 -- Assumes nothing.
-use Prim.Native.Nat.{ℕ, ◌+◌, ◌-◌, ◌≤◌}
+use Prim.Native.Nat.{ℕ, ◌+◌, ◌-◌}
 use mathlib.Core.Path.{◌≡◌, refl}
 use mathlib.Core.Bool.{false, ◌&&◌}
 use mathlib.Core.List.{[], ◌∷◌}
 use lib.Dec.{leb, eqb}
 use lib.IntN.{pos}
 use native.Mathlib.Omega.{arith}
-use Rattle.gregorian.specs.Calendar.{monday, thursday, last_day, day_number}
+use Rattle.gregorian.specs.Calendar.{monday, thursday, day_number}
 use Rattle.gregorian.specs.declared.days.CalendarDay.{CalendarDay}
 use Rattle.gregorian.proofs.Laws.{days-on}
 use Rattle.gregorian.proofs.Tests.{and_right}
