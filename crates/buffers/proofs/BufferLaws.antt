@@ -80,3 +80,15 @@ module _ (bytes more text buffer : List ℕ) (whole : text ≡ bytes ++ more) (f
           omega (arith, lengths, w.0),
           rw (q, w.1, whole, take_at bytes left n (sym w.0), from, long, take-length, drop-length, append-nil, drop-drop, length-append, append_assoc) refl,
         )
+
+-- Three texts, each after the first into what is left of the buffer.
+pub third-written : (a b d buffer : List ℕ) → length (a ++ b ++ d) ≤ length buffer
+    → (n : ℕ) (out : List ℕ) → (n ≡ length a) × (out ≡ overwrite a buffer)
+    → (m : ℕ) (rest : List ℕ) → (m ≡ length b) × (rest ≡ overwrite b (take (length out - n) (drop n out)))
+    → (k : ℕ) (last : List ℕ)
+    → (let two = put_mid n (length out - n) out rest in
+      (k ≡ length d) × (last ≡ overwrite d (take (length two - (n + m)) (drop (n + m) two)))
+      → (n + m + k ≡ length (a ++ b ++ d)) × (put_mid (n + m) (length two - (n + m)) two last ≡ overwrite (a ++ b ++ d) buffer))
+third-written a b d buffer fits n out w m rest v k last u =
+    let two = all-written a b (a ++ b) buffer refl (bytes_fit (a ++ b) d (a ++ b ++ d) buffer refl fits) n out w m rest v in
+    all-written (a ++ b) d (a ++ b ++ d) buffer refl fits (n + m) (put_mid n (length out - n) out rest) two k last u

@@ -12,7 +12,7 @@ use borrow.Author.Tests.{lt-ltb, le-ltb}
 use Rattle.buffers.specs.Buffers.{overwrite}
 use Rattle.buffers.proofs.BufferLaws.{overwrite-none, overwrite-byte}
 use Rattle.decimal.specs.Decimal.{decimal_in, decimal, leading_digits, value_from, value_of}
-use Rattle.decimal.proofs.DigitLaws.{digit, leading-append, value-append}
+use Rattle.decimal.proofs.DigitLaws.{one_more, leading-append, value-append}
 
 -- ---- the two equations
 
@@ -89,6 +89,9 @@ write-more n buffer out k h fits e q =
     let longer = length_more n h in
     (omega arith, rw (decimal-more n h, q) (overwrite-byte (decimal (n / 10)) buffer (48 + n % 10) k (sym e) (omega arith)))
 
+-- what the writer of a number needs
+pub ruleset written = (length-one, length_more, write-one, write-more)
+
 -- ---- as a digit string
 
 -- All its bytes are digits.
@@ -99,7 +102,7 @@ decimal-digits =
     (λ n h tenth. rw (decimal-more n h, length-append, leading-append (decimal (n / 10)) _ tenth, last (n % 10) (omega arith)) refl)
   where
     last : (d : ℕ) → d < 10 → leading_digits ((48 + d) ∷ []) ≡ 1
-    last d h = simp (digit (48 + d) (omega arith) (omega arith))
+    last d h = one_more (48 + d) [] (omega arith) (omega arith)
 
 -- Its value is the number.
 pub decimal-value : (n : ℕ) → value_of (decimal n) ≡ n

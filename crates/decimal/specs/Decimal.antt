@@ -1,5 +1,7 @@
 -- Numbers in decimal, as ASCII bytes: docs/SCOPE.md [sheet-numbers], [sheet-input]. Assumes nothing.
-use Rattle.std.specs.Prelude.{ℕ, zero, suc, ◌+◌, ◌-◌, ◌*◌, ◌/◌, ◌%◌, Bool, cond, ◌&&◌, List, [], ◌∷◌, ◌++◌, ltb, leb}
+use Rattle.std.specs.Prelude.{ℕ, zero, suc, ◌+◌, ◌-◌, ◌*◌, ◌/◌, ◌%◌, cond, List, [], ◌∷◌, ◌++◌, ltb}
+use Rattle.std.specs.List.{prefix_len}
+use Rattle.std.specs.Char.{is_ascii_digit}
 
 -- ---- written
 
@@ -16,14 +18,9 @@ decimal n = decimal_in (suc n) n
 
 -- ---- read
 
--- `0` to `9`
-unfoldable pub is_digit : ℕ → Bool
-is_digit b = leb 48 b && leb b 57
-
--- how many digits the text starts with
+-- how many digits, `0` to `9`, the text starts with
 unfoldable pub leading_digits : List ℕ → ℕ
-leading_digits [] = 0
-leading_digits (b ∷ text) = cond (is_digit b) (suc (leading_digits text)) 0
+leading_digits text = prefix_len is_ascii_digit text
 
 -- the value of n and then these digits
 unfoldable pub value_from : ℕ → List ℕ → ℕ

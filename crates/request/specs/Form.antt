@@ -1,8 +1,7 @@
 -- The claim that the reader accepts exactly the texts of the form: docs/SCOPE.md [sheet-input]. Assumes nothing.
-use Rattle.std.specs.Prelude.{ℕ, ◌<◌, ◌≡◌, List, length}
+use Rattle.std.specs.Prelude.{Some, None, ℕ, ◌<◌, ◌≡◌, List, length}
 use Rattle.decimal.specs.Decimal.{value_of}
 use Rattle.request.specs.Request.{DigitString, request_text, read_request}
-use Rattle.request.specs.declared.Request.{Request}
 
 -- The text is of the form, with three digit strings whose values are the market, the year and the month.
 pub record HasForm (text : List ℕ) (market year month : ℕ) : Type 0 where
@@ -17,10 +16,10 @@ pub record HasForm (text : List ℕ) (market year month : ℕ) : Type 0 where
 pub record ReadsTheForm : Type 0 where
   -- each text of the form is accepted, and read as the values of its digit strings
   pub accepts : (market year month : List ℕ) → DigitString market → DigitString year → DigitString month
-      → read_request (request_text market year month) ≡ Request.Month (value_of market) (value_of year) (value_of month)
+      → read_request (request_text market year month) ≡ Some (record { market = value_of market; year = value_of year; month = value_of month })
   -- what is accepted is of the form
-  pub only : (text : List ℕ) (market year month : ℕ) → read_request text ≡ Request.Month market year month → HasForm text market year month
+  pub only : (text : List ℕ) (market year month : ℕ) → read_request text ≡ Some (record { market = market; year = year; month = month }) → HasForm text market year month
   -- a text of any other form is malformed
-  pub malformed : (text : List ℕ) → ((market year month : ℕ) → HasForm text market year month → ⊥) → read_request text ≡ Request.Malformed
+  pub malformed : (text : List ℕ) → ((market year month : ℕ) → HasForm text market year month → ⊥) → read_request text ≡ None
   -- and so is one of more than 48 bytes: the longest of the form has three numbers of nine digits
-  pub too_long : (text : List ℕ) → 48 < length text → read_request text ≡ Request.Malformed
+  pub too_long : (text : List ℕ) → 48 < length text → read_request text ≡ None

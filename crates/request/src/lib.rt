@@ -1,127 +1,81 @@
 // The reader of the text that asks for a month sheet [sheet-input].
 #![tactic(auto)]
 
-ghost use Rattle.std.specs.Prelude.{◌≡◌, eqb, get_or};
-ghost use Rattle.request.specs.Request.{starts_with, read_number, read_line, read_month, read_year, read_request};
+ghost use Rattle.std.specs.Prelude.{◌≡◌, ◌≤◌, length, IfSome};
+ghost use Rattle.request.specs.Request.{read_number, read_line, read_month, read_year, read_request};
 
 // A number, and how many bytes were read for it, up to its line feed.
 #[derive(Clone, Copy)]
-enum Line {
-    Number { value: u32, size: usize },
-    None,
+struct Line {
+    value: u32,
+    size: usize,
 }
 
 // The month of a market that the text names.
 #[derive(Clone, Copy)]
-pub enum Request {
-    Month { market: u32, year: u32, month: u32 },
-    Malformed,
-}
-
-// Whether the text starts with the name.
-fn starts_with(name: &[u8], text: &[u8]) -> bool
-    ensures { result ≡ starts_with name.now text.now }
-{
-    let mut i = 0;
-    while i < name.len() {
-        if i == text.len() {
-            return false;
-        }
-        if text[i] != name[i] {
-            return false;
-        }
-        i += 1;
-    }
-    true
-}
-
-// A line feed stands at i; there is none past the end.
-fn is_line_feed(text: &[u8], i: usize) -> bool
-    ensures { result ≡ eqb (get_or text.now i 0) 10 }
-{
-    if i < text.len() {
-        text[i] == b'\n'
-    } else {
-        false
-    }
+pub struct Request {
+    pub market: u32,
+    pub year: u32,
+    pub month: u32,
 }
 
 // 1 to 9 digits and the line feed after them.
-fn read_number(text: &[u8]) -> Line
-    ensures { result ≡ read_number text.now }
+#[tactic(auto, unfolding(crate::specs::Request::read_number))]
+fn read_number(text: &[u8]) -> Option<Line>
+    ensures value { result ≡ read_number text.now }
+    ensures within { IfSome result (λ line. line.size ≤ length text.now) }
 {
     let n = decimal::leading_digits(text);
-    if n == 0 {
-        return Line::None;
+    if n == 0 || n > 9 || text.get(n) != Some(&b'\n') {
+        return None;
     }
-    if n > 9 {
-        return Line::None;
-    }
-    if !is_line_feed(text, n) {
-        return Line::None;
-    }
-    Line::Number {
+    Some(Line {
         value: decimal::value(&text[..n]),
         size: n + 1,
-    }
+    })
 }
 
 // The name and its number.
-fn read_line(name: &[u8], text: &[u8]) -> Line
-    ensures { result ≡ read_line name.now text.now }
+#[tactic(auto, unfolding(crate::specs::Request::read_line), using(crate::proofs::RequestLaws::name_stripped))]
+fn read_line(name: &[u8], text: &[u8]) -> Option<Line>
+    ensures value { result ≡ read_line name.now text.now }
+    ensures within { IfSome result (λ line. line.size ≤ length text.now) }
 {
-    if !starts_with(name, text) {
-        return Line::None;
-    }
-    let n = name.len();
-    match read_number(&text[n..]) {
-        Line::Number { value, size } => Line::Number {
-            value,
-            size: n + size,
-        },
-        Line::None => Line::None,
-    }
+    let number = read_number(text.strip_prefix(name)?)?;
+    Some(Line {
+        value: number.value,
+        size: name.len() + number.size,
+    })
 }
 
 // The last line, after which nothing may follow.
-fn read_month(market: u32, year: u32, text: &[u8]) -> Request
+#[tactic(auto, unfolding(crate::specs::Request::read_month, crate::specs::Request::on_line), using(crate::proofs::RequestLaws::ends))]
+fn read_month(market: u32, year: u32, text: &[u8]) -> Option<Request>
     ensures { result ≡ read_month market year text.now }
 {
-    let Line::Number { value: month, size } = read_line(b"month=", text) else {
-        return Request::Malformed;
-    };
-    if size == text.len() {
-        Request::Month {
-            market,
-            year,
-            month,
-        }
-    } else {
-        Request::Malformed
-    }
+    let line = read_line(b"month=", text)?;
+    (line.size == text.len()).then_some(Request {
+        market,
+        year,
+        month: line.value,
+    })
 }
 
 // The second line; the rest of the text goes to the reader of the third.
-fn read_year(market: u32, text: &[u8]) -> Request
+#[tactic(auto, unfolding(crate::specs::Request::read_year, crate::specs::Request::on_line))]
+fn read_year(market: u32, text: &[u8]) -> Option<Request>
     ensures { result ≡ read_year market text.now }
 {
-    let Line::Number { value: year, size } = read_line(b"year=", text) else {
-        return Request::Malformed;
-    };
-    read_month(market, year, &text[size..])
+    let line = read_line(b"year=", text)?;
+    read_month(market, line.value, &text[line.size..])
 }
 
 // [sheet-input]: the whole text, line by line. Each line's reader gives the rest of the text, from the byte after the line feed, to the
 // reader of the next.
-pub fn read_request(text: &[u8]) -> Request
+#[tactic(auto, unfolding(crate::specs::Request::read_request, crate::specs::Request::on_line))]
+pub fn read_request(text: &[u8]) -> Option<Request>
     ensures { result ≡ read_request text.now }
 {
-    let Line::Number {
-        value: market,
-        size,
-    } = read_line(b"market=", text)
-    else {
-        return Request::Malformed;
-    };
-    read_year(market, &text[size..])
+    let line = read_line(b"market=", text)?;
+    read_year(line.value, &text[line.size..])
 }

@@ -1,5 +1,5 @@
 -- The call for a month sheet: docs/SCOPE.md [sheet-return], [errors]. Assumes nothing.
-use Rattle.std.specs.Prelude.{ℕ, List, length, Result, Ok, Err}
+use Rattle.std.specs.Prelude.{ℕ, List, length, Option, Some, None, Result, Ok, Err}
 use Rattle.error.specs.declared.CalendarError.{CalendarError}
 use Rattle.error.specs.declared.CalendarError.TheVariants.{MalformedText}
 use Rattle.checks.specs.Checks.{checked_month, checked_room, final_buffer}
@@ -13,9 +13,9 @@ unfoldable pub sheet_of_month : ℕ → ℕ → ℕ → Result (List ℕ) Calend
 sheet_of_month market year month = result_and_then (checked_month market year month) (λ _. Ok (month_sheet market year month))
 
 -- the sheet that is asked for; error 10 where the text asks for none
-abbrev pub sheet_of_request : Request → Result (List ℕ) CalendarError
-sheet_of_request (Request.Month market year month) = sheet_of_month market year month
-sheet_of_request Request.Malformed = Err MalformedText
+abbrev pub sheet_of_request : Option Request → Result (List ℕ) CalendarError
+sheet_of_request (Some r) = sheet_of_month r.market r.year r.month
+sheet_of_request None = Err MalformedText
 
 -- the same from the text
 abbrev pub sheet_of : List ℕ → Result (List ℕ) CalendarError

@@ -1,6 +1,6 @@
 -- The laws of the month sheet hold.
 -- Assumes nothing.
-use Rattle.std.proofs.Common.{Result, Ok, Err}
+use Rattle.std.proofs.Common.{Option, Some, None, Result, Ok, Err}
 use Prim.Native.Nat.{ℕ, ◌^◌, ◌≤◌, ◌<◌}
 use mathlib.Core.Path.{◌≡◌, refl, sym, ap, ◌∙◌}
 use mathlib.Core.Bool.{true}
@@ -127,16 +127,16 @@ module _ (market year month : ℕ) (k : CheckedMonth market year month) where
   )
 
   -- The first three lines are a text of the form, with the digits of the three numbers.
-  read_back : read_request (first_lines 3 (month_sheet market year month)) ≡ Request.Month market year month
+  read_back : read_request (first_lines 3 (month_sheet market year month)) ≡ Some (record { market = market; year = year; month = month })
   unfolding request_text sheet_lines
   read_back =
       ap read_request (first-lines 3 (sheet_lines market year month days) above)
       ∙ reads-the-form.accepts (decimal market) (decimal year) (decimal month)
       (is_number market small.0).digit-string (is_number year small.1).digit-string (is_number month small.2).digit-string
-      ∙ (λ j. Request.Month (decimal-value market j) (decimal-value year j) (decimal-value month j))
+      ∙ (λ j. Some (record { market = decimal-value market j; year = decimal-value year j; month = decimal-value month j }))
 
   -- the claim about this month
-  laws : (text : List ℕ) (n : ℕ) → read_request text ≡ Request.Month market year month → n ≡ length (month_sheet market year month)
+  laws : (text : List ℕ) (n : ℕ) → read_request text ≡ Some (record { market = market; year = year; month = month }) → n ≡ length (month_sheet market year month)
       → SheetLaws text n (month_sheet market year month)
   laws text n e l =
       let list = split-list days in
@@ -170,23 +170,26 @@ module _ (market year month : ℕ) (k : CheckedMonth market year month) where
 -- ---- the call
 
 -- The text asks for a month, as it gives no error 10.
-by-request : (text buffer : List ℕ) (n : ℕ) (r : Request) → read_request text ≡ r → sheet_written (sheet_of_request r) buffer ≡ Ok n
+by-request : (text buffer : List ℕ) (n : ℕ) (r : Option Request) → read_request text ≡ r → sheet_written (sheet_of_request r) buffer ≡ Ok n
     → SheetLaws text n (take n (sheet_buffer (sheet_of_request r) buffer))
-by-request text buffer n (Request.Month market year month) e h =
+by-request text buffer n (Some request) e h =
+    let market = request.market in
+    let year = request.year in
+    let month = request.month in
     let s = sheet-checked market year month n buffer h in
     let w = written-bytes (month_sheet market year month) buffer n (ap (λ (r : Result (List ℕ) CalendarError). sheet_written r buffer) (sym s.1) ∙ h) in
     rw (s.1, w.1) (laws market year month s.0 text n e w.0)
-by-request text buffer n Request.Malformed e h = absurd (let z : ◌≡◌ {A = ℕ} 0 1 = cc in omega arith)
+by-request text buffer n None e h = absurd (let z : ◌≡◌ {A = ℕ} 0 1 = cc in omega arith)
 
 -- The text asks for a month without an error, and every sheet has room.
-answered : (text buffer : List ℕ) (market year month : ℕ) → read_request text ≡ Request.Month market year month → is_market market ≡ true → is_supported year ≡ true
+answered : (text buffer : List ℕ) (market year month : ℕ) → read_request text ≡ Some (record { market = market; year = year; month = month }) → is_market market ≡ true → is_supported year ≡ true
     → 1 ≤ month → month ≤ 12 → 136 ≤ length buffer → (n : ℕ) × (sheet_call text buffer ≡ counted n)
 answered text buffer market year month e k s l u room =
     let bytes = month_sheet market year month in
     let checked = month-passes market year month k s l u in
     let short = sheet-fits market year month (month-checked market year month checked) in (
       length bytes,
-      ap (λ (r : Request). count_answer (sheet_written (sheet_of_request r) buffer)) e
+      ap (λ (r : Option Request). count_answer (sheet_written (sheet_of_request r) buffer)) e
           ∙ ap (λ (r : Result (List ℕ) CalendarError). count_answer (sheet_written r buffer)) (sheet-by-check market year month _ checked)
           ∙ ap count_answer (room-enough (length bytes) (length buffer) (omega arith))
           ∙ counted_is (length bytes),

@@ -1,6 +1,6 @@
 -- One claim about the bytes that a month sheet's call writes: docs/SCOPE.md [sheet-output], [sheet-numbers], [sheet-return]. The answers
 -- are the structs that the exported calls return, by the definitions that their contracts cite. Assumes nothing.
-use Rattle.std.specs.Prelude.{ℕ, zero, suc, ◌≤◌, ◌<◌, ◌≡◌, true, cond, List, [], ◌∷◌, ◌++◌, map, eqb, length, take, get_or}
+use Rattle.std.specs.Prelude.{ℕ, zero, suc, ◌≤◌, ◌<◌, ◌≡◌, true, cond, Some, List, [], ◌∷◌, ◌++◌, map, eqb, length, take, get_or}
 use Rattle.markets.specs.Markets.{is_market}
 use Rattle.markets.specs.Years.{is_supported}
 use Rattle.ranges.specs.Ranges.{Every}
@@ -10,7 +10,6 @@ use Rattle.answers.specs.declared.counts.CountAnswer.{CountAnswer}
 use Rattle.answers.specs.Answers.{count_answer}
 use Rattle.answers.specs.Expected.{counted}
 use Rattle.decimal.specs.Decimal.{value_of}
-use Rattle.request.specs.declared.Request.{Request}
 use Rattle.request.specs.Text.{ascii}
 use Rattle.request.specs.Request.{DigitString, read_request}
 use Rattle.sheet.specs.SheetCall.{month_sheet_result, month_sheet_buffer}
@@ -61,7 +60,7 @@ pub record SheetLaws (text : List ℕ) (n : ℕ) (written : List ℕ) : Type 0 w
   pub market : ℕ
   pub year : ℕ
   pub month : ℕ
-  pub request : read_request text ≡ Request.Month market year month
+  pub request : read_request text ≡ Some (record { market = market; year = year; month = month })
   -- [sheet-return]
   pub length-is : length written ≡ n
   pub at_most : n ≤ 136
@@ -99,7 +98,7 @@ pub record SheetLaws (text : List ℕ) (n : ℕ) (written : List ℕ) : Type 0 w
 -- for every text and buffer
 pub record AllSheetLaws : Type 0 where
   -- Where the text asks for a month of a supported year of one of the markets, and there is room, the call gives no error.
-  pub answered : (text buffer : List ℕ) (market year month : ℕ) → read_request text ≡ Request.Month market year month → is_market market ≡ true → is_supported year ≡ true
+  pub answered : (text buffer : List ℕ) (market year month : ℕ) → read_request text ≡ Some (record { market = market; year = year; month = month }) → is_market market ≡ true → is_supported year ≡ true
       → 1 ≤ month → month ≤ 12 → 136 ≤ length buffer → (n : ℕ) × (sheet_call text buffer ≡ counted n)
   -- Where it gives none, the bytes written are the sheet of such a month.
   pub written : (text buffer : List ℕ) (n : ℕ) → sheet_call text buffer ≡ counted n → SheetLaws text n (take n (month_sheet_buffer text buffer))

@@ -1,24 +1,18 @@
 -- The laws of lines, and of numbers with commas between.
 -- Assumes nothing.
-use Prim.Native.Nat.{ℕ, ◌+◌, ◌-◌, ◌≤◌, ◌<◌}
+use Prim.Native.Nat.{ℕ, ◌+◌, ◌-◌, ◌≤◌, max}
 use mathlib.Core.Path.{◌≡◌, refl, sym, ap, ◌∙◌}
 use mathlib.Core.List.{List, [], ◌∷◌, ◌++◌, append_assoc, append-nil}
 use lib.ListN.{length, get_or, take, drop, length-append}
-use lib.Seq.{drop-cons}
-use native.Mathlib.Numerals.{add-one}
 use native.Mathlib.Omega.{arith}
 use Rattle.buffers.proofs.BufferLaws.{rest-is}
 use Rattle.decimal.specs.Decimal.{decimal}
 use Rattle.request.specs.Text.{ascii, text_of}
 use Rattle.sheet_lines.specs.Sheet.{comma_separated, sheet_lines, sheet_text}
-use Rattle.sheet_lines.specs.Inner.{sheet_line, sheet_from}
-
--- ---- lines
-
--- the text from line k on is that line, and the text from the next one on
-text-from : (lines : List (List ℕ)) (k : ℕ) → k < length lines → text_of (drop k lines) ≡ get_or lines k [] ++ ascii "\n" ++ text_of (drop (k + 1) lines)
-unfolding text_of
-text-from lines k h = ap text_of (drop-cons lines k [] h) ∙ ap (λ (n : ℕ). get_or lines k [] ++ ascii "\n" ++ text_of (drop n lines)) (sym (add-one k))
+use Rattle.std.specs.List.{sum_by}
+use Rattle.std.proofs.lemmas.List.Sums.{sum_by-cons}
+use Rattle.sheet_lines.specs.Inner.{request_part, days_part, text}
+use Rattle.sheet_lines.specs.declared.Sheet.{Sheet}
 
 -- ---- numbers with commas between, and a line feed: none, one, and more
 
@@ -51,16 +45,33 @@ numbers_more (m ∷ l ∷ ns) n e h =
     ∙ ap (λ (r : List ℕ). decimal m ++ ascii "," ++ numbers_line r) (sym (rest-is (m ∷ l ∷ ns) 1))
     ∙ ap (λ (k : ℕ). decimal k ++ ascii "," ++ numbers_line (others (m ∷ l ∷ ns))) (sym e)
 
+-- the digits of a number, and a byte after them
+abbrev pub with_end : ℕ → ℕ
+with_end n = length (decimal n) + 1
+
+pub numbers-length : (numbers : List ℕ) → max (sum_by with_end numbers) 1 ≡ length (numbers_line numbers)
+unfolding comma_separated
+numbers-length [] = refl
+numbers-length (n ∷ []) = simp length-append (omega arith)
+numbers-length (n ∷ m ∷ ns) =
+    let rest = simp length-append at (numbers-length (m ∷ ns)) in
+    simp length-append (omega (arith, sum_by-cons with_end n (m ∷ ns), sum_by-cons with_end m ns))
+
 -- ---- the sheet
 
-pub sheet-from : (k market year month : ℕ) (days : List ℕ) → k < 4
-    → sheet_from k market year month days ≡ sheet_line k market year month days ++ sheet_from (k + 1) market year month days
-unfolding sheet_lines
-sheet-from k market year month days h = text-from (sheet_lines market year month days) k (omega arith)
+-- five lines of names and what follows them, in two parts
+regroup : (m market y year o month c count d days feed : List ℕ)
+    → m ++ market ++ feed ++ (y ++ year ++ feed ++ (o ++ month ++ feed ++ (c ++ count ++ feed ++ (d ++ days ++ feed ++ []))))
+    ≡ m ++ (market ++ feed) ++ (y ++ (year ++ feed)) ++ (o ++ (month ++ feed)) ++ (c ++ (count ++ feed) ++ d ++ (days ++ feed))
+regroup m market y year o month c count d days feed = simp (append_assoc, append-nil)
 
-pub sheet-last : (k market year month : ℕ) (days : List ℕ) → k ≡ 4 → sheet_from k market year month days ≡ ascii "days=" ++ numbers_line days
+pub text-parts : (sheet : Sheet) → text sheet ≡ request_part sheet.request ++ days_part sheet.days.now
 unfolding sheet_lines text_of
-sheet-last k market year month days e = ap (λ (i : ℕ). sheet_from i market year month days) e ∙ append-nil (ascii "days=" ++ numbers_line days)
+text-parts sheet =
+    let r = sheet.request in
+    let days = sheet.days.now in
+    regroup (ascii "market=") (decimal r.market) (ascii "year=") (decimal r.year) (ascii "month=") (decimal r.month)
+    (ascii "count=") (decimal (length days)) (ascii "days=") (comma_separated days) (ascii "\n")
 
 -- its names have 29 bytes, and the first four line feeds come to them
 pub sheet-lengths : (market year month : ℕ) (days : List ℕ) → length (sheet_text market year month days)

@@ -4,7 +4,6 @@ ghost use Rattle.std.specs.Prelude.{◌≡◌, ◌+◌, ◌≤◌};
 ghost use Rattle.gregorian.specs.Calendar.{last_year, day_number};
 ghost use Rattle.utils.specs.Easter.{moon_days, easter, calculate_easter, calculate_good_friday, calculate_easter_monday};
 
-
 // The days of March on which Easter and the two days beside it are at the earliest.
 pub const EARLIEST_GOOD_FRIDAY: u32 = 20;
 

@@ -2,6 +2,7 @@
 #![tactic(auto)]
 
 pub mod easter;
+mod month_weekday;
 
 ghost use Rattle.std.specs.Prelude.{◌≡◌, true, ℕ, ◌+◌, ◌≤◌, ◌<◌, eqb, pos, negsuc};
 ghost use Rattle.gregorian.specs.Calendar.{day_number, last_day, is_date};
@@ -9,6 +10,7 @@ ghost use Rattle.utils.specs.Weekday.{if_in_month, next_month, next_year, last_u
 ghost use Rattle.utils.specs.Inner.{InYears, day_of_nth, NthInYears};
 
 use gregorian::Date;
+use month_weekday::MonthWeekday;
 use signed::Signed;
 
 // The nth weekday: a day of the month that was asked about, or a day by its number.
@@ -18,24 +20,12 @@ pub enum NthWeekday {
     DayNumber(u32),
 }
 
-// How far n goes either way.
-const MOST_NTH: u32 = 255;
-
 // The last such weekday up to day n: one of the seven days that end there.
 pub fn last_up_to(weekday: u32, n: u32) -> u32
     requires { (weekday ≤ 6) × (7 ≤ n) × (n ≤ last_day + 31) }
     ensures { result ≡ last_up_to weekday n }
 {
     n - (n + 13 - weekday) % 7
-}
-
-// Of the seven days that end with a day of the month, the one that is such a weekday, as a day of the month.
-fn weekday_up_to(year: u32, month: u32, weekday: u32, day: u32) -> u32
-    requires { (is_date year month day ≡ true) × (weekday ≤ 6) × (7 ≤ day) }
-    ensures { (day_number year month result ≡ last_up_to weekday (day_number year month day)) × (result ≤ day) × (day ≤ result + 6) }
-{
-    let n = gregorian::day_number(year, month, day);
-    day - (n - last_up_to(weekday, n))
 }
 
 // The year is not compared.
@@ -67,38 +57,6 @@ fn by_number(day: Option<u32>) -> Option<NthWeekday>
     Some(NthWeekday::DayNumber(day?))
 }
 
-// n - 1 weeks after the first one. The first four are always in the month: the nth is among the seven days up to 7 * n.
-fn nth_from_start(year: u32, month: u32, weekday: u32, n: u32) -> Option<NthWeekday>
-    requires { (is_date year month 1 ≡ true) × (weekday ≤ 6) }
-    ensures { (day_of_nth year month result ≡ nth_weekday_of_month year month weekday (pos n)) × NthInYears year month result }
-{
-    if n < 1 {
-        return None;
-    }
-    if n < 5 {
-        return Some(NthWeekday::InMonth(weekday_up_to(year, month, weekday, 7 * n)));
-    }
-    if MOST_NTH < n {
-        return None;
-    }
-    let first = weekday_up_to(year, month, weekday, 7);
-    let first_day = Date {
-        year,
-        month,
-        day: 1,
-    };
-    let target = gregorian::day_number(year, month, first) + 7 * (n - 1);
-    by_number(if_in_month(first_day, target))
-}
-
-// Every month but December 9999 has a next one.
-fn has_next_month(year: u32, month: u32) -> bool
-    requires { is_date year month 1 ≡ true }
-    ensures { result ≡ is_date (next_year year month) (next_month month) 1 }
-{
-    (month < 12) | (year < gregorian::LAST_YEAR)
-}
-
 // k weeks before a day, if that is in a month of the same number as the first day.
 fn weeks_before(first_day: Date, k: u32, day: u32) -> Option<u32>
     requires { k < most_nth }
@@ -111,31 +69,6 @@ fn weeks_before(first_day: Date, k: u32, day: u32) -> Option<u32>
     if_in_month(first_day, day - days)
 }
 
-// k weeks before the last one. The last four are always in the month: that one is among the seven days up to length - 7 * k.
-fn nth_from_end(year: u32, month: u32, weekday: u32, k: u32) -> Option<NthWeekday>
-    requires { (is_date year month 1 ≡ true) × (weekday ≤ 6) }
-    ensures { (day_of_nth year month result ≡ nth_weekday_of_month year month weekday (negsuc k)) × NthInYears year month result }
-{
-    if !has_next_month(year, month) {
-        return None;
-    }
-    let length = gregorian::days_in_month(year, month);
-    if k < 4 {
-        return Some(NthWeekday::InMonth(weekday_up_to(year, month, weekday, length - 7 * k)));
-    }
-    if MOST_NTH <= k {
-        return None;
-    }
-    let last = weekday_up_to(year, month, weekday, length);
-    let first_day = Date {
-        year,
-        month,
-        day: 1,
-    };
-    let last_day = gregorian::day_number(year, month, last);
-    by_number(weeks_before(first_day, k, last_day))
-}
-
 // [nth-weekday], [last-weekday]
 pub fn find_nth_weekday(year: u32, month: u32, weekday: u32, nth: i32) -> Option<NthWeekday>
     ensures { (day_of_nth year month result ≡ nth_weekday_of_month year month weekday nth) × NthInYears year month result }
@@ -146,9 +79,14 @@ pub fn find_nth_weekday(year: u32, month: u32, weekday: u32, nth: i32) -> Option
     if 6 < weekday {
         return None;
     }
+    let asked = MonthWeekday {
+        year,
+        month,
+        weekday,
+    };
     match Signed::from(nth) {
-        Signed::NotNegative(n) => nth_from_start(year, month, weekday, n),
-        Signed::Negative(k) => nth_from_end(year, month, weekday, k),
+        Signed::NotNegative(n) => asked.nth_from_start(n),
+        Signed::Negative(k) => asked.nth_from_end(k),
     }
 }
 

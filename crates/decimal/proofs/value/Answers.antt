@@ -18,16 +18,16 @@ value-here digits i n all short h e =
     (byte.0, byte.1, omega (arith, value-more digits i n h, value_grows (drop (i + 1) digits) (n * 10 + (get_or digits i 0 - 48))))
 
 pub overflow_mul-value : goal.overflow_mul-value
-overflow_mul-value c = omega (arith, value-here _ _ _ c.requires.0 c.requires.1 (omega arith) c.loop-i.invariant.1)
+overflow_mul-value c = omega (arith, value-here _ _ _ c.requires.0 c.requires.1 (omega arith) c.loop-byte.invariant)
 
-pub overflow_sub-value : goal.overflow_sub-value
-overflow_sub-value c = omega (arith, value-here _ _ _ c.requires.0 c.requires.1 (omega arith) c.loop-i.invariant.1)
+pub overflow_sub-byte : goal.overflow_sub-byte
+overflow_sub-byte c = omega (arith, value-here _ _ _ c.requires.0 c.requires.1 (omega arith) c.loop-byte.invariant)
 
 pub overflow_add-value : goal.overflow_add-value
-overflow_add-value c = omega (arith, value-here _ _ _ c.requires.0 c.requires.1 (omega arith) c.loop-i.invariant.1)
+overflow_add-value c = omega (arith, value-here _ _ _ c.requires.0 c.requires.1 (omega arith) c.loop-byte.invariant, c.from.ensures)
 
-pub loop-i-preserved : goal.loop-i-preserved
-loop-i-preserved c = (omega arith, c.loop-i.invariant.1 ∙ value-more _ c.loop-i.i c.loop-i.value (omega arith))
+pub loop-byte-preserved : goal.loop-byte-preserved
+loop-byte-preserved c = rw c.from.ensures (c.loop-byte.invariant ∙ value-more _ c.loop-byte.byte-index c.loop-byte.value (omega arith))
 
 pub returns : goal.returns
-returns c = sym (c.loop-i.invariant.1 ∙ value-end _ c.loop-i.i _ (omega arith))
+returns c = sym (c.loop-byte.invariant ∙ value-end _ c.loop-byte.byte-index _ (omega arith))

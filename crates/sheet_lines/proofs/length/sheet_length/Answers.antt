@@ -5,5 +5,5 @@ use Rattle.sheet_lines.proofs.length.sheet_length.Goals as goal
 
 pub returns : goal.returns
 returns c =
-    let s = c.args in
-    (omega (arith, sheet-lengths s.market s.year s.month s.days.now), omega arith)
+    let s = c.args.sheet.now in
+    (omega (arith, sheet-lengths s.request.market s.request.year s.request.month s.days.now), omega arith)

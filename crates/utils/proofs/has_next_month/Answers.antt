@@ -1,6 +1,0 @@
--- `utils::has_next_month` meets its contract: only December 9999 has none.
-use Rattle.utils.proofs.WeekdayLaws.{next-month}
-use Rattle.utils.proofs.has_next_month.Goals as goal
-
-pub returns : goal.returns
-returns c = next-month c.args.year c.args.month c.requires
