@@ -5,6 +5,7 @@
 ghost use Rattle.std.specs.Prelude.{◌≡◌, option_map};
 ghost use Rattle.all_years.specs.AllYears.{known_day, day_answer};
 
+use gregorian::Date;
 use gregorian::days::CalendarDay;
 
 // Where there is no such market or no such date, every field is false.

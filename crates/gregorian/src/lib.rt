@@ -15,7 +15,7 @@ pub const FIRST_DAY: u32 = 1;
 
 pub const LAST_DAY: u32 = 3652059;
 
-// The numbers of weekdays, 0 Monday to 6 Sunday; those that are asked for by name.
+// The numbers of weekdays, 0 Monday to 6 Sunday; those that are asked for by name. No enum, as the C calls hand and answer numbers.
 pub const MONDAY: u32 = 0;
 
 pub const TUESDAY: u32 = 1;
@@ -36,7 +36,7 @@ pub struct Date {
     pub day: u32,
 }
 
-// No date, where an answer has none.
+// No date, where an answer has none: no Option, as the C structs hold a date.
 pub const NO_DATE: Date = Date {
     year: 0,
     month: 0,
@@ -135,7 +135,8 @@ fn year_of(n: u32) -> u32
     }
 }
 
-// The month of day n of a year: by the length of a long month, which gives its place or one too low.
+// The month of day n of a year: by the length of a long month, which gives its place or one too low. No function that takes the sum as a
+// closure, for `year_of` and this, as its contract would be no plainer than these lines.
 fn month_of(year: u32, n: u32) -> u32
     requires { (1 ≤ n) × (n ≤ year_length year) }
     ensures { Within (month_length year) 12 n result }

@@ -1,14 +1,14 @@
 -- The laws of the answers of next and previous.
 -- Assumes nothing.
-use Rattle.std.proofs.Common.{Option, Some, None, Result, Ok}
+use Rattle.std.proofs.Common.{Option, Result, Ok}
 use Prim.Native.Nat.{ℕ, ◌-◌, ◌≤◌, ◌<◌}
-use mathlib.Core.Path.{◌≡◌, refl, ap, ◌∙◌}
+use mathlib.Core.Path.{◌≡◌, ap, ◌∙◌}
 use mathlib.Core.Bool.{true}
 use borrow.Author.Tests.{lt-ltb, le-ltb}
 use Rattle.gregorian.specs.Calendar.{is_date, day_number}
 use Rattle.markets.specs.Markets.{is_market}
 use Rattle.checks.specs.Checks.{checked_day}
-use Rattle.range_calls.specs.RangeCalls.{distance_of, trading_day, trading_day_result, neighbour_result}
+use Rattle.range_calls.specs.RangeCalls.{distance_of, trading_day_result, neighbour_result}
 use Rattle.error.proofs.ErrorLaws.{past-ok}
 use Rattle.checks.proofs.CheckLaws.{day-passes}
 use Rattle.error.specs.declared.CalendarError.{CalendarError}

@@ -55,9 +55,6 @@ contains-day ds None n = sym (or-false (contains ds n))
 pub day-is : (r : Option ℕ) (d n : ℕ) → Some d ≡ r → eqb n d ≡ is_day r n
 day-is r d n e = ap (λ (o : Option ℕ). is_day o n) e
 
-pub none_is : (r : Option ℕ) (n : ℕ) → None ≡ r → false ≡ is_day r n
-none_is r n e = ap (λ (o : Option ℕ). is_day o n) e
-
 -- A day that is not between two others is not one that is.
 pub not-between : (first last d n : ℕ) → first ≤ d → d ≤ last → is_between first last n ≡ false → false ≡ eqb n d
 not-between first last d n l u e = by (eqb n d) refl

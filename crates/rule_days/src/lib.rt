@@ -55,7 +55,7 @@ pub fn is_observed(day: CalendarDay, month: u32, d: u32) -> bool
 }
 
 // The nth weekday of a month of the year, from its end where nth is below 0, for day n if that is on the weekday. For another it is not
-// computed, and none.
+// computed, and none. Each rule that asks keeps the early return on none, `let Some(..) else`, as [forms] has it.
 pub fn nth_weekday_for(n: u32, year: u32, month: u32, weekday: u32, nth: i32) -> Option<u32>
     ensures { is_day result n ≡ is_day (nth_weekday_of_month year month weekday nth) n }
 {

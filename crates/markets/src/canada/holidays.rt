@@ -21,8 +21,7 @@ pub fn is_canada_holiday(day: CalendarDay) -> bool
     match month {
         1 => is_observed(day, 1, 1),
         2 => is_family_day(day),
-        3 => is_good_friday(day),
-        4 => is_good_friday(day),
+        3 | 4 => is_good_friday(day),
         5 => n == victoria_day(day),
         7 => is_observed(day, 7, 1),
         9 => is_labour_day(day),

@@ -22,8 +22,7 @@ pub fn is_uk_holiday(day: CalendarDay) -> bool
     let month = day.date.month;
     match month {
         1 => is_observed(day, 1, 1),
-        3 => is_good_friday(day) | is_easter_monday(day),
-        4 => is_good_friday(day) | is_easter_monday(day),
+        3 | 4 => is_good_friday(day) | is_easter_monday(day),
         5 => is_early_may_bank_holiday(day) | is_spring_bank_holiday(day),
         8 => is_summer_bank_holiday(day),
         12 => is_christmas_or_boxing_day(day),

@@ -20,8 +20,7 @@ pub fn is_us_holiday(day: CalendarDay) -> bool
     match month {
         1 => is_observed(day, 1, 1) | is_mlk_day(day),
         2 => is_presidents_day(day),
-        3 => is_good_friday(day),
-        4 => is_good_friday(day),
+        3 | 4 => is_good_friday(day),
         5 => is_memorial_day(day),
         6 => is_juneteenth(day),
         7 => is_independence_day(day),
