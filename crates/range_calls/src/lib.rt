@@ -51,11 +51,8 @@ pub fn next_trading_day(market: u32, date: Date) -> Result<TradingDay, CalendarE
     ensures { result ≡ next_trading_day_result market date.year date.month date.day }
 {
     let day = checked_day(market, date)?;
-    trading_day_result(
-        date.year,
-        day.number,
-        neighbours::next_trading_day(market, day),
-    )
+    let next = neighbours::next_trading_day(market, day);
+    trading_day_result(date.year, day.number, next)
 }
 
 // [previous]
@@ -63,9 +60,6 @@ pub fn previous_trading_day(market: u32, date: Date) -> Result<TradingDay, Calen
     ensures { result ≡ previous_trading_day_result market date.year date.month date.day }
 {
     let day = checked_day(market, date)?;
-    trading_day_result(
-        date.year,
-        day.number,
-        neighbours::previous_trading_day(market, day),
-    )
+    let previous = neighbours::previous_trading_day(market, day);
+    trading_day_result(date.year, day.number, previous)
 }

@@ -111,15 +111,9 @@ impl TradingHours {
     pub fn is_open_at(self, time: u32) -> bool
         ensures { result ≡ is_open_at self time }
     {
-        let is_pre_market = self
-            .pre_market
-            .is_some_and(|session| session.contains(time));
-        let is_after_hours = self
-            .after_hours
-            .is_some_and(|session| session.contains(time));
-        let is_reached = self
-            .early_close
-            .is_none_or(|early_close| early_close <= time);
+        let is_pre_market = self.pre_market.is_some_and(|s| s.contains(time));
+        let is_after_hours = self.after_hours.is_some_and(|s| s.contains(time));
+        let is_reached = self.early_close.is_none_or(|close| close <= time);
         is_pre_market
             | ((self.regular.start <= time) & (time < self.market_close()))
             | (is_after_hours & is_reached)
