@@ -3,4 +3,4 @@ use Rattle.range_calls.proofs.RangeLaws.{neighbour-is}
 use Rattle.range_calls.proofs.previous_trading_day.Goals as goal
 
 pub returns : goal.returns
-returns c = neighbour-is _ _ _ _ _ _ _ _ c.in_ok-day.ensures c.previous_trading_day.ensures c.trading_day_result.ensures
+returns c = neighbour-is _ _ _ _ _ _ _ _ c.in_ok-day.ensures c.previous_trading_day-previous.ensures c.trading_day_result.ensures
