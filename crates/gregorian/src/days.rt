@@ -1,6 +1,6 @@
 // A day as searches carry it: its day number and its date together, stepped to the day after and the day before without a conversion.
 ghost use Rattle.std.specs.Prelude.{◌≡◌, true, ◌+◌, ◌-◌, ◌≤◌, ltb};
-ghost use Rattle.gregorian.specs.Calendar.{month_length, day_number, last_day, is_date, is_date_of, date_of, number, day_after, day_before};
+ghost use Rattle.gregorian.specs.Calendar.{month_length, last_day, is_date_of, date_of, number, day_after, day_before};
 
 use crate::{Date, day_number, days_in_month};
 

@@ -9,7 +9,7 @@ ghost use Rattle.ranges.specs.Ranges.{days};
 use gregorian::days::CalendarDay;
 
 // The days from day number `next` to `last`, both included. `day` is the day before `next` or, at first, that day itself: so a step is
-// one compare and `day_after`, and none goes beyond `last`.
+// one compare and `next_day`, and none goes beyond `last`.
 #[derive(Drop)]
 pub struct Days {
     pub day: CalendarDay,
