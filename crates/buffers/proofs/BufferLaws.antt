@@ -87,8 +87,8 @@ pub third-written : (a b d buffer : List ℕ) → length (a ++ b ++ d) ≤ lengt
     → (m : ℕ) (rest : List ℕ) → (m ≡ length b) × (rest ≡ overwrite b (take (length out - n) (drop n out)))
     → (k : ℕ) (last : List ℕ)
     → (let two = put_mid n (length out - n) out rest in
-      (k ≡ length d) × (last ≡ overwrite d (take (length two - (n + m)) (drop (n + m) two)))
-      → (n + m + k ≡ length (a ++ b ++ d)) × (put_mid (n + m) (length two - (n + m)) two last ≡ overwrite (a ++ b ++ d) buffer))
+    (k ≡ length d) × (last ≡ overwrite d (take (length two - (n + m)) (drop (n + m) two)))
+    → (n + m + k ≡ length (a ++ b ++ d)) × (put_mid (n + m) (length two - (n + m)) two last ≡ overwrite (a ++ b ++ d) buffer))
 third-written a b d buffer fits n out w m rest v k last u =
     let two = all-written a b (a ++ b) buffer refl (bytes_fit (a ++ b) d (a ++ b ++ d) buffer refl fits) n out w m rest v in
     all-written (a ++ b) d (a ++ b ++ d) buffer refl fits (n + m) (put_mid n (length out - n) out rest) two k last u
