@@ -1,5 +1,6 @@
 -- The first bytes of the input, if they are more than 48, decide what is printed.
 -- Assumes nothing.
+use Rattle.std.proofs.Common.{Option}
 use Prim.Native.Nat.{ℕ, ◌<◌}
 use mathlib.Core.Path.{◌≡◌, sym, ap, ◌∙◌}
 use mathlib.Core.List.{List}
@@ -23,7 +24,7 @@ same-request room h input =
     ]
 
 pub first-bytes-decide : FirstBytesDecide
-first-bytes-decide room h input = ap (λ (r : Request). printed_result (sheet_of_request r)) (same-request room h input)
+first-bytes-decide room h input = ap (λ (o : Option Request). printed_result (sheet_of_request o)) (same-request room h input)
 
 -- What was read is printed as the input is.
 pub read-decides : (input buffer : List ℕ) (n : ℕ) → 48 < length buffer → ReadOf input buffer n → printed (take n buffer) ≡ printed input

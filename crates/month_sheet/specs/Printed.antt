@@ -1,18 +1,19 @@
 -- What the program prints: docs/SCOPE.md [sheet-program]. Assumes nothing.
-use Rattle.std.specs.Prelude.{ℕ, ◌<◌, ◌≡◌, List, ◌++◌, length, take}
+use Rattle.std.specs.Prelude.{ℕ, ◌<◌, ◌≡◌, Result, Ok, Err, List, ◌++◌, length, take}
+use Rattle.error.specs.declared.CalendarError.{CalendarError}
 use Rattle.error.specs.Errors.{error_number}
 use Rattle.decimal.specs.Decimal.{decimal}
 use Rattle.request.specs.Text.{ascii}
-use Rattle.sheet.specs.SheetCall.{SheetResult, sheet_of}
+use Rattle.sheet.specs.SheetCall.{sheet_of}
 
 -- the line for an error
 abbrev pub refused_line : ℕ → List ℕ
 refused_line number = ascii "refused=" ++ (decimal number ++ ascii "\n")
 
 -- the sheet, or the line with the number of its error
-abbrev pub printed_result : SheetResult → List ℕ
-printed_result (SheetResult.Ok bytes) = bytes
-printed_result (SheetResult.Err e) = refused_line (error_number e)
+abbrev pub printed_result : Result (List ℕ) CalendarError → List ℕ
+printed_result (Ok bytes) = bytes
+printed_result (Err e) = refused_line (error_number e)
 
 -- what is printed for the input
 abbrev pub printed : List ℕ → List ℕ
