@@ -4,7 +4,7 @@ ghost use Rattle.gregorian.specs.Calendar.{date};
 ghost use Rattle.calendar.specs.CalendarCalls.{trading_hours_result, is_open_result};
 ghost use Rattle.hours_calls.specs.HoursCalls.{session_new_result, session_contains_result, trading_hours_new_result, with_early_close_result};
 ghost use Rattle.hours_calls.specs.HoursCalls.{is_early_close_result, market_close_result, is_open_at_result};
-ghost use Rattle.answers.specs.Records.{optional_session, trading_hours_of};
+ghost use Rattle.answers.specs.Records.{optional, trading_hours_of};
 ghost use Rattle.answers.specs.Answers.{bool_answer, time_answer, session_answer, hours_answer};
 
 use answers::BoolAnswer;
@@ -53,7 +53,7 @@ pub fn tc_trading_hours_new(
     after_hours: Session,
 ) -> HoursAnswer
     ensures { result ≡ hours_answer (trading_hours_new_result (date year month day) regular
-        (optional_session has_pre_market pre_market) (optional_session has_after_hours after_hours)) }
+        (optional has_pre_market pre_market) (optional has_after_hours after_hours)) }
 {
     HoursAnswer::from(hours_calls::trading_hours_new(
         Date { year, month, day },
