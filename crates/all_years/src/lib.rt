@@ -8,7 +8,7 @@ ghost use Rattle.all_years.specs.AllYears.{known_day, day_answer};
 use gregorian::Date;
 use gregorian::days::CalendarDay;
 
-// Where there is no such market or no such date, every field is false.
+// Where there is no such market or no such date, every field is false. A C struct, so a flag and no Option.
 #[repr(C)]
 #[derive(Clone, Copy)]
 pub struct DayAnswer {

@@ -123,6 +123,7 @@ pub record CheckedRange (start end : Date) (a b : ℕ) : Type 0 where
   pub numbers : (a ≡ number start) × (b ≡ number end)
   pub start-year : min_year ≤ start.year
   pub end-year : end.year ≤ max_year
+  pub low : 1 ≤ a
   pub in-years : (a ≤ last_day) × (b ≤ last_day)
 
 module _ (start end : Date) where
@@ -153,6 +154,7 @@ module _ (start end : Date) where
         numbers = (i, k);
         start-year = ltb-false start.year min_year years.0;
         end-year = ltb-false max_year end.year years.1;
+        low = omega (arith, i, number-range start.year start.month start.day s);
         in-years = (omega (arith, i, number-range start.year start.month start.day s), omega (arith, k, number-range end.year end.month end.day e));
       }
 

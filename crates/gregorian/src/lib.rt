@@ -66,7 +66,7 @@ pub fn days_in_month(year: u32, month: u32) -> u32
     }
 }
 
-// Every month has 28 days, and its length is asked for only past them.
+// Of three numbers, as C hands them, which are no date yet. Every month has 28 days, and its length is asked for only past them.
 pub fn is_date(year: u32, month: u32, day: u32) -> bool
     ensures { result ≡ is_date year month day }
 {

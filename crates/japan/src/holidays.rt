@@ -70,7 +70,7 @@ fn is_with_substitute(date: u32, n: u32) -> bool
     n == date
 }
 
-// The equinox of the year, by its days in 2020 to 2030, or its substitute.
+// The equinox of the year, by its days in 2020 to 2030, or its substitute. The years are tested as the definition does.
 fn is_equinox(days: [u32; 11], day: CalendarDay, month: u32) -> bool
     requires { (day.date.month ≡ month) × (every_between 1 28 days 11 ≡ true) }
     ensures { result ≡ is_day_with_substitute (equinox days day.date.year month) day.number }

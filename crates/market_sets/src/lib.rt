@@ -14,7 +14,7 @@ use gregorian::{Date, day_number, is_date};
 use markets::{LAST_MARKET, is_trading_day};
 use ranges::Days;
 
-// One more than the set of all markets.
+// One more than the set of all markets. A set is a byte, as C hands it.
 const SETS_END: u8 = 1 << (LAST_MARKET + 1);
 
 // [market-set]

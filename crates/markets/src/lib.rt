@@ -19,7 +19,7 @@ use japan::holidays::is_japan_holiday;
 use uk::holidays::is_uk_holiday;
 use us::holidays::is_us_holiday;
 
-// [markets]
+// [markets]. No enum: C hands a market as a number, and the functions of one promise an answer for every number.
 pub const NYSE: u32 = 0;
 
 pub const NASDAQ: u32 = 1;

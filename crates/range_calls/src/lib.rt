@@ -46,7 +46,7 @@ fn trading_day_result(
     })
 }
 
-// [next]
+// [next]. It and the next one share what they answer; the search as an argument would need a contract longer than both bodies.
 pub fn next_trading_day(market: u32, date: Date) -> Result<TradingDay, CalendarError>
     ensures { result ≡ next_trading_day_result market date.year date.month date.day }
 {

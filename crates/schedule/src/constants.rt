@@ -1,5 +1,5 @@
 // The seconds of each market, as src/constants.rs of the Rust has them: docs/SCOPE.md [hours]. Each number belongs to the type of
-// its market.
+// its market [forms]. No trait of markets: each of its impls would write a number twice, as a constant and for the clauses.
 
 #[derive(Clone, Copy)]
 pub struct USMarket;

@@ -31,7 +31,7 @@ pub fn count(market: u32, first: CalendarDay, last: u32) -> u32
 }
 
 // [month-list]: how many days of the month trade. The first so many bytes are then these days, by their numbers in the month. Each day
-// is asked for once.
+// is asked for once. The caller lends the bytes: the library has no heap, and a list answered in a struct was copied, and slower.
 pub fn month_days(market: u32, year: u32, month: u32, days: &mut [u8]) -> usize
     requires { (is_date year month 1 ≡ true) × (length days.old ≡ 31) }
     ensures { (take result days.new ≡ month_list market year month) × (result ≤ 31) }
