@@ -7,10 +7,15 @@ use mathlib.Core.List.{List, [], ◌∷◌}
 use lib.ListN.{length, length-append}
 use native.Mathlib.Nat.{zero-add}
 use native.Mathlib.Omega.{arith}
+use Rattle.std.specs.Int.{from_bool}
 use Rattle.ranges.specs.Ranges.{days_from, keep, filter, trading_days, one_more, count_from, count_trading_days, sum_of}
 use Rattle.ranges.specs.Agreement.{parts, Splits, count_of}
 use Rattle.ranges.proofs.Lists.{filter-first, trading-split, all-fail, first_passes}
 use Rattle.ranges.proofs.Search.{is-first, finds-one}
+
+pub flag-high : (t : Bool) → from_bool t ≤ 1
+flag-high true = omega arith
+flag-high false = omega arith
 
 pub splits-order : (a : ℕ) (splits : List ℕ) (b : ℕ) → Splits a splits b → a ≤ suc b
 splits-order a [] b h = h
@@ -24,6 +29,14 @@ module _ (trades : ℕ → Bool) where
 
     pub count-passed : trades n ≡ false → count + length (filter trades l) ≡ count + length (filter trades rest)
     count-passed t = ap (λ (i : ℕ). count + i) (ap length (filter-first trades n l rest e false t))
+
+    -- the first day of a range, asked for by itself
+    pub count-from-first : length (filter trades l) ≡ from_bool (trades n) + length (filter trades rest)
+    count-from-first = ap length (filter-first trades n l rest e (trades n) refl) ∙ kept (trades n) (filter trades rest)
+      where
+        kept : (t : Bool) (l : List ℕ) → length (keep t n l) ≡ from_bool t + length l
+        kept true l = omega arith
+        kept false l = omega arith
 
   counted-from : (k count a : ℕ) → count_from trades count a k ≡ count + length (filter trades (days_from a k))
   unfolding days_from filter count_from

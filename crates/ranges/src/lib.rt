@@ -30,10 +30,10 @@ impl Iterator for Days {
         if self.last < self.next {
             return None;
         }
-        let day = if self.day.number == self.next {
-            self.day
-        } else {
+        let day = if self.day.number < self.next {
             self.day.next_day()
+        } else {
+            self.day
         };
         self.day = day;
         self.next = day.number + 1;

@@ -1,23 +1,34 @@
 -- `trading_days::count` meets its contract: each turn of the loop is one day of the count.
-use Rattle.std.proofs.Common.{ℕ, List, length, ap, ap₂, sym, ◌∙◌, arith}
+use Rattle.std.proofs.Common.{ℕ, ◌≡◌, ◌+◌, suc, List, length, ap, ap₂, sym, refl, ◌∙◌, arith}
+use Rattle.std.specs.Int.{from_bool}
 use Rattle.markets.specs.Markets.{is_trading_day}
 use Rattle.ranges.specs.Ranges.{days, filter}
 use Rattle.ranges.specs.declared.Days.{Days}
-use Rattle.ranges.proofs.Lists.{days_length, filter_none}
-use Rattle.ranges.proofs.Counts.{counted, count-one, count-passed}
+use Rattle.ranges.proofs.Lists.{days_length, day-first, filter_none}
+use Rattle.ranges.proofs.Counts.{counted, count-one, count-passed, count-from-first, flag-high, count_none}
 use Rattle.trading_days.proofs.count.Goals as goal
+
+-- no day from the first on
+pub returns-then-last-first : goal.returns-then-last-first
+returns-then-last-first c = sym (count_none (is_trading_day c.args.market) c.args.first.number c.args.last (omega arith))
 
 pub loop-day-init : goal.loop-day-init
 loop-day-init c =
     let trades = is_trading_day c.args.market in
-    let new = c.new-day-items.ensures in
-    let all = ap (λ (s : Days). days s.next s.last) c.into_iter-day-iterator.ensures.into_iter_gives ∙ ap₂ days new.0 new.1 in
     let first = c.args.first in
+    let n = first.number in
+    let last = c.args.last in
+    let new = c.after-day-items.ensures in
+    let next : suc n ≡ n + 1 = omega arith in
+    let rest = ap (λ (s : Days). days s.next s.last) c.into_iter-day-iterator.ensures.into_iter_gives ∙ ap₂ days (new.0 ∙ next) new.1 in
+    let flag = c.from-count.ensures ∙ ap from_bool c.is_trading_day.ensures in
     record {
       can = tt;
       ends = tt;
-      below = omega (arith, ap length all, days_length first.number c.args.last, first.low, c.requires);
-      counted = omega (arith, counted trades first.number c.args.last, ap (λ (l : List ℕ). length (filter trades l)) all);
+      below = omega (arith, ap length rest, days_length (n + 1) last, flag, flag-high (trades n), c.requires);
+      counted = counted trades n last
+          ∙ count-from-first trades 0 n (days n last) (days (n + 1) last) (day-first n last n (omega arith) refl)
+          ∙ ap₂ (λ (k : ℕ) (l : List ℕ). k + length (filter trades l)) (sym flag) (sym rest);
     }
 
 pub overflow_add-count : goal.overflow_add-count
@@ -31,7 +42,7 @@ loop-day-preserved-then-is_trading_day c =
       can = i.can;
       ends = i.ends;
       below = omega (arith, ap length first, i.below);
-      counted = i.counted ∙ count-one (is_trading_day c.args.market) _ _ _ _ first (sym c.is_trading_day.ensures ∙ c.if-is_trading_day.true);
+      counted = i.counted ∙ count-one (is_trading_day c.args.market) _ _ _ _ first (sym c.is_trading_day-in-loop-day.ensures ∙ c.if-is_trading_day.true);
     }
 
 pub loop-day-preserved : goal.loop-day-preserved
@@ -42,7 +53,7 @@ loop-day-preserved c =
       can = i.can;
       ends = i.ends;
       below = omega (arith, ap length first, i.below);
-      counted = i.counted ∙ count-passed (is_trading_day c.args.market) _ _ _ _ first (sym c.is_trading_day.ensures ∙ c.if-is_trading_day.false);
+      counted = i.counted ∙ count-passed (is_trading_day c.args.market) _ _ _ _ first (sym c.is_trading_day-in-loop-day.ensures ∙ c.if-is_trading_day.false);
     }
 
 pub returns : goal.returns
