@@ -1,69 +1,43 @@
 // The trading days of a date range, over any rule of which days trade: definitions and theorems, and the days of a range one by one.
 #![tactic(auto)]
 
-ghost use Rattle.std.specs.Prelude.{◌≡◌, suc, ◌-◌, ◌≤◌, reverse};
+ghost use Rattle.std.specs.Prelude.{◌≡◌, ◌+◌, ◌-◌, ◌≤◌, reverse};
 ghost use Rattle.std.specs.Iterator.{YieldsFirstBy, item_count};
 ghost use Rattle.gregorian.specs.Calendar.{last_day};
 ghost use Rattle.ranges.specs.Ranges.{days};
 
 use gregorian::days::CalendarDay;
 
-// The days from day number `next` to `last`, both included. `day` is the day before `next` or, at first, that day itself: so a step is
-// one compare and `next_day`, and none goes beyond `last`.
+// The days after `day`, up to `last`.
 #[derive(Drop)]
-pub struct Days {
+pub struct DaysAfter {
     pub day: CalendarDay,
-    pub next: u32,
     pub last: u32,
-    pub ghost near: { (day.number ≤ next) × (next ≤ suc day.number) },
     pub ghost high: { last ≤ last_day },
 }
 
-impl Iterator for Days {
+impl Iterator for DaysAfter {
     type Item = CalendarDay;
 
-    ghost next_gives = { YieldsFirstBy (λ day. day.number) (λ s. days s.next s.last) };
+    ghost next_gives = { YieldsFirstBy (λ day. day.number) (λ s. days (s.day.number + 1) s.last) };
 
-    ghost remaining = { item_count (λ s. days s.next s.last) };
+    ghost remaining = { item_count (λ s. days (s.day.number + 1) s.last) };
 
     fn next(&mut self) -> Option<CalendarDay> {
-        if self.last < self.next {
+        if self.last <= self.day.number {
             return None;
         }
-        let day = if self.day.number < self.next {
-            self.day.next_day()
-        } else {
-            self.day
-        };
-        self.day = day;
-        self.next = day.number + 1;
-        Some(day)
+        self.day = self.day.next_day();
+        Some(self.day)
     }
 }
 
-impl Days {
-    // From that day on.
-    pub fn new(first: CalendarDay, last: u32) -> Days
+impl DaysAfter {
+    pub fn new(day: CalendarDay, last: u32) -> Self
         requires { last ≤ last_day }
-        ensures { (result.next ≡ first.number) × (result.last ≡ last) }
+        ensures { (result.day ≡ day) × (result.last ≡ last) }
     {
-        Days {
-            day: first,
-            next: first.number,
-            last,
-        }
-    }
-
-    // From the day after it on.
-    pub fn after(day: CalendarDay, last: u32) -> Days
-        requires { last ≤ last_day }
-        ensures { (result.next ≡ suc day.number) × (result.last ≡ last) }
-    {
-        Days {
-            day,
-            next: day.number + 1,
-            last,
-        }
+        DaysAfter { day, last }
     }
 }
 
@@ -92,7 +66,7 @@ impl Iterator for DaysBefore {
 }
 
 impl DaysBefore {
-    pub fn new(day: CalendarDay, first: u32) -> DaysBefore
+    pub fn new(day: CalendarDay, first: u32) -> Self
         requires { 1 ≤ first }
         ensures { (result.day ≡ day) × (result.first ≡ first) }
     {

@@ -10,7 +10,7 @@ ghost use Rattle.trading_days.specs.Month.{month_list};
 use gregorian::Date;
 use gregorian::days::CalendarDay;
 use markets::is_trading_day;
-use ranges::Days;
+use ranges::DaysAfter;
 
 // How many days a month has at most.
 pub const LONGEST_MONTH: usize = 31;
@@ -25,7 +25,7 @@ pub fn count(market: u32, first: CalendarDay, last: u32) -> u32
         return 0;
     }
     let mut count = u32::from(is_trading_day(market, first));
-    for day in Days::after(first, last) {
+    for day in DaysAfter::new(first, last) {
         if is_trading_day(market, day) {
             count += 1;
         }

@@ -1,9 +1,9 @@
 -- `trading_days::count` meets its contract: each turn of the loop is one day of the count.
-use Rattle.std.proofs.Common.{ℕ, ◌≡◌, ◌+◌, suc, List, length, ap, ap₂, sym, refl, ◌∙◌, arith}
+use Rattle.std.proofs.Common.{ℕ, ◌+◌, List, length, ap, ap₂, sym, refl, ◌∙◌, arith}
 use Rattle.std.specs.Int.{from_bool}
 use Rattle.markets.specs.Markets.{is_trading_day}
 use Rattle.ranges.specs.Ranges.{days, filter}
-use Rattle.ranges.specs.declared.Days.{Days}
+use Rattle.ranges.specs.declared.DaysAfter.{DaysAfter}
 use Rattle.ranges.proofs.Lists.{days_length, day-first, filter_none}
 use Rattle.ranges.proofs.Counts.{counted, count-one, count-passed, count-from-first, flag-high, count_none}
 use Rattle.trading_days.proofs.count.Goals as goal
@@ -18,9 +18,9 @@ loop-day-init c =
     let first = c.args.first in
     let n = first.number in
     let last = c.args.last in
-    let new = c.after-day-items.ensures in
-    let next : suc n ≡ n + 1 = omega arith in
-    let rest = ap (λ (s : Days). days s.next s.last) c.into_iter-day-iterator.ensures.into_iter_gives ∙ ap₂ days (new.0 ∙ next) new.1 in
+    let new = c.new-day-items.ensures in
+    let rest = ap (λ (s : DaysAfter). days (s.day.number + 1) s.last) c.into_iter-day-iterator.ensures.into_iter_gives
+    ∙ (λ j. days ((new.0 j).number + 1) (new.1 j)) in
     let flag = c.from-count.ensures ∙ ap from_bool c.is_trading_day.ensures in
     record {
       can = tt;

@@ -6,7 +6,7 @@ use Rattle.ranges.specs.Ranges.{days, filter, count_trading_days}
 use Rattle.trading_days.proofs.count.Given as goal
 
 abbrev pub invariant-loop-day : goal.invariant-loop-day
-invariant-loop-day l = let left = days l.day-iterator.next l.day-iterator.last in record {
+invariant-loop-day l = let left = days (l.day-iterator.day.number + 1) l.day-iterator.last in record {
   can : (goal.iterator-loop-day).can_next l.day-iterator;
   ends : (goal.iterator-loop-day).is_finite l.day-iterator;
   below : l.count + length left ≤ last_day;
