@@ -12,7 +12,7 @@ use error::CalendarError;
 use gregorian::days::CalendarDay;
 use gregorian::{Date, day_number, is_date};
 use markets::{LAST_MARKET, is_trading_day};
-use ranges::DaysAfter;
+use ranges::Days;
 
 // One more than the set of all markets. A set is a byte, as C hands it.
 const SETS_END: u8 = 1 << (LAST_MARKET + 1);
@@ -51,13 +51,7 @@ fn first_common_day(markets: u8, first: CalendarDay, last: u32) -> Option<Calend
     requires { last ≤ last_day }
     ensures { option_map (λ day. day.number) result ≡ find (is_common_trading_day markets) (days first.number last) }
 {
-    if last < first.number {
-        return None;
-    }
-    if is_common_trading_day(markets, first) {
-        return Some(first);
-    }
-    DaysAfter::new(first, last).find(|day| is_common_trading_day(markets, *day))
+    Days::new(first, last).find(|day| is_common_trading_day(markets, *day))
 }
 
 fn date_of_found(day: Option<CalendarDay>) -> Option<Date>

@@ -10,13 +10,13 @@ ghost use Rattle.ranges.specs.Ranges.{next_trading_day, previous_trading_day};
 use gregorian::days::CalendarDay;
 use markets::is_trading_day;
 use markets::years::{first_day_of, last_day_of};
-use ranges::{DaysAfter, DaysBefore};
+use ranges::{Days, DaysBefore};
 
 // [next]: none if no day after it trades, up to the last that is looked at.
 pub fn next_trading_day(market: u32, day: CalendarDay) -> Option<CalendarDay>
     ensures { option_map (λ found. found.number) result ≡ next_trading_day (is_trading_day market) (last_day_of market) day.number }
 {
-    DaysAfter::new(day, last_day_of(market)).find(|next| is_trading_day(market, *next))
+    Days::after(day, last_day_of(market)).find(|next| is_trading_day(market, *next))
 }
 
 // [previous]: none if no day before it trades, down to the first that is looked at.

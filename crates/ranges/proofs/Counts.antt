@@ -22,21 +22,13 @@ splits-order a [] b h = h
 splits-order a (c ∷ splits) b h = omega (arith, splits-order c splits b h.1)
 
 module _ (trades : ℕ → Bool) where
-  -- The count of what is left of a list, for a loop: its first day, and the days after it.
-  module _ (count n : ℕ) (l rest : List ℕ) (e : l ≡ n ∷ rest) where
-    pub count-one : trades n ≡ true → count + length (filter trades l) ≡ count + 1 + length (filter trades rest)
-    count-one t = ap (λ (i : ℕ). count + i) (ap length (filter-first trades n l rest e true t)) ∙ omega arith
-
-    pub count-passed : trades n ≡ false → count + length (filter trades l) ≡ count + length (filter trades rest)
-    count-passed t = ap (λ (i : ℕ). count + i) (ap length (filter-first trades n l rest e false t))
-
-    -- the first day of a range, asked for by itself
-    pub count-from-first : length (filter trades l) ≡ from_bool (trades n) + length (filter trades rest)
-    count-from-first = ap length (filter-first trades n l rest e (trades n) refl) ∙ kept (trades n) (filter trades rest)
-      where
-        kept : (t : Bool) (l : List ℕ) → length (keep t n l) ≡ from_bool t + length l
-        kept true l = omega arith
-        kept false l = omega arith
+  -- The count of a list, its first day asked for by itself.
+  pub count-first : (n : ℕ) (l rest : List ℕ) → l ≡ n ∷ rest → length (filter trades l) ≡ from_bool (trades n) + length (filter trades rest)
+  count-first n l rest e = ap length (filter-first trades n l rest e (trades n) refl) ∙ kept (trades n) (filter trades rest)
+    where
+      kept : (t : Bool) (l : List ℕ) → length (keep t n l) ≡ from_bool t + length l
+      kept true l = omega arith
+      kept false l = omega arith
 
   counted-from : (k count a : ℕ) → count_from trades count a k ≡ count + length (filter trades (days_from a k))
   unfolding days_from filter count_from

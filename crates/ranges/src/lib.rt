@@ -1,43 +1,69 @@
 // The trading days of a date range, over any rule of which days trade: definitions and theorems, and the days of a range one by one.
 #![tactic(auto)]
 
-ghost use Rattle.std.specs.Prelude.{◌≡◌, ◌+◌, ◌-◌, ◌≤◌, reverse};
+ghost use Rattle.std.specs.Prelude.{◌≡◌, suc, ◌-◌, ◌≤◌, reverse};
 ghost use Rattle.std.specs.Iterator.{YieldsFirstBy, item_count};
 ghost use Rattle.gregorian.specs.Calendar.{last_day};
 ghost use Rattle.ranges.specs.Ranges.{days};
 
 use gregorian::days::CalendarDay;
 
-// The days after `day`, up to `last`.
+// The days from day number `next` to `last`, both included. `day` is the day before `next` or, at first, that day itself: so a step is
+// one compare and `next_day`, and none goes beyond `last`.
 #[derive(Drop)]
-pub struct DaysAfter {
+pub struct Days {
     pub day: CalendarDay,
+    pub next: u32,
     pub last: u32,
+    pub ghost near: { (day.number ≤ next) × (next ≤ suc day.number) },
     pub ghost high: { last ≤ last_day },
 }
 
-impl Iterator for DaysAfter {
+impl Iterator for Days {
     type Item = CalendarDay;
 
-    ghost next_gives = { YieldsFirstBy (λ day. day.number) (λ s. days (s.day.number + 1) s.last) };
+    ghost next_gives = { YieldsFirstBy (λ day. day.number) (λ s. days s.next s.last) };
 
-    ghost remaining = { item_count (λ s. days (s.day.number + 1) s.last) };
+    ghost remaining = { item_count (λ s. days s.next s.last) };
 
     fn next(&mut self) -> Option<CalendarDay> {
-        if self.last <= self.day.number {
+        if self.last < self.next {
             return None;
         }
-        self.day = self.day.next_day();
-        Some(self.day)
+        let day = if self.day.number < self.next {
+            self.day.next_day()
+        } else {
+            self.day
+        };
+        self.day = day;
+        self.next = day.number + 1;
+        Some(day)
     }
 }
 
-impl DaysAfter {
-    pub fn new(day: CalendarDay, last: u32) -> Self
+impl Days {
+    // From that day on.
+    pub fn new(first: CalendarDay, last: u32) -> Days
         requires { last ≤ last_day }
-        ensures { (result.day ≡ day) × (result.last ≡ last) }
+        ensures { (result.next ≡ first.number) × (result.last ≡ last) }
     {
-        DaysAfter { day, last }
+        Days {
+            day: first,
+            next: first.number,
+            last,
+        }
+    }
+
+    // From the day after it on.
+    pub fn after(day: CalendarDay, last: u32) -> Days
+        requires { last ≤ last_day }
+        ensures { (result.next ≡ suc day.number) × (result.last ≡ last) }
+    {
+        Days {
+            day,
+            next: day.number + 1,
+            last,
+        }
     }
 }
 
@@ -66,7 +92,7 @@ impl Iterator for DaysBefore {
 }
 
 impl DaysBefore {
-    pub fn new(day: CalendarDay, first: u32) -> Self
+    pub fn new(day: CalendarDay, first: u32) -> DaysBefore
         requires { 1 ≤ first }
         ensures { (result.day ≡ day) × (result.first ≡ first) }
     {

@@ -10,13 +10,12 @@ ghost use Rattle.trading_days.specs.Month.{month_list};
 use gregorian::Date;
 use gregorian::days::CalendarDay;
 use markets::is_trading_day;
-use ranges::DaysAfter;
 
 // How many days a month has at most.
 pub const LONGEST_MONTH: usize = 31;
 
-// [count]: from the first day to the last, both included; 0 if the last is before the first. The first is asked for by itself, so that
-// each other day is a step: a `for` over all, or `filter` with `count`, took 1.08 of the instructions.
+// [count]: from the first day to the last, both included; 0 if the last is before the first. By hand, as a `for` over the days took 1.08
+// of the instructions and `filter` with `count` as many.
 pub fn count(market: u32, first: CalendarDay, last: u32) -> u32
     requires { last ≤ last_day }
     ensures { result ≡ count_trading_days (is_trading_day market) first.number last }
@@ -24,13 +23,15 @@ pub fn count(market: u32, first: CalendarDay, last: u32) -> u32
     if last < first.number {
         return 0;
     }
-    let mut count = u32::from(is_trading_day(market, first));
-    for day in DaysAfter::new(first, last) {
-        if is_trading_day(market, day) {
-            count += 1;
+    let mut count = 0;
+    let mut day = first;
+    loop {
+        count += u32::from(is_trading_day(market, day));
+        if day.number == last {
+            return count;
         }
+        day = day.next_day();
     }
-    count
 }
 
 // [month-list]: how many days of the month trade. The first so many bytes are then these days, by their numbers in the month. Each day

@@ -1,62 +1,47 @@
 -- `trading_days::count` meets its contract: each turn of the loop is one day of the count.
-use Rattle.std.proofs.Common.{ℕ, ◌+◌, List, length, ap, ap₂, sym, refl, ◌∙◌, arith}
+use Rattle.std.proofs.Common.{ℕ, ◌≡◌, ◌+◌, List, length, ap, sym, refl, ◌∙◌, arith}
 use Rattle.std.specs.Int.{from_bool}
 use Rattle.markets.specs.Markets.{is_trading_day}
 use Rattle.ranges.specs.Ranges.{days, filter}
-use Rattle.ranges.specs.declared.DaysAfter.{DaysAfter}
-use Rattle.ranges.proofs.Lists.{days_length, day-first, filter_none}
-use Rattle.ranges.proofs.Counts.{counted, count-one, count-passed, count-from-first, flag-high, count_none}
+use Rattle.ranges.proofs.Lists.{days_length, day-first, days-none, filter_none}
+use Rattle.ranges.proofs.Counts.{counted, count_none, count-first, flag-high}
 use Rattle.trading_days.proofs.count.Goals as goal
 
--- no day from the first on
 pub returns-then-last-first : goal.returns-then-last-first
 returns-then-last-first c = sym (count_none (is_trading_day c.args.market) c.args.first.number c.args.last (omega arith))
 
 pub loop-day-init : goal.loop-day-init
 loop-day-init c =
+    let n = c.args.first.number in
+    record {
+      in-range = omega arith;
+      below = omega (arith, days_length n c.args.last, c.args.first.low, c.requires);
+      counted = omega (arith, counted (is_trading_day c.args.market) n c.args.last);
+    }
+
+pub returns-then-day-last : goal.returns-then-day-last
+returns-then-day-last c =
     let trades = is_trading_day c.args.market in
-    let first = c.args.first in
-    let n = first.number in
     let last = c.args.last in
-    let new = c.new-day-items.ensures in
-    let rest = ap (λ (s : DaysAfter). days (s.day.number + 1) s.last) c.into_iter-day-iterator.ensures.into_iter_gives
-    ∙ (λ j. days ((new.0 j).number + 1) (new.1 j)) in
-    let flag = c.from-count.ensures ∙ ap from_bool c.is_trading_day.ensures in
-    record {
-      can = tt;
-      ends = tt;
-      below = omega (arith, ap length rest, days_length (n + 1) last, flag, flag-high (trades n), c.requires);
-      counted = counted trades n last
-          ∙ count-from-first trades 0 n (days n last) (days (n + 1) last) (day-first n last n (omega arith) refl)
-          ∙ ap₂ (λ (k : ℕ) (l : List ℕ). k + length (filter trades l)) (sym flag) (sym rest);
-    }
-
-pub overflow_add-count : goal.overflow_add-count
-overflow_add-count c = record { fits = omega (arith, ap length c.in-Some.ensures.steps, c.loop-day.invariant.below) }
-
-pub loop-day-preserved-then-is_trading_day : goal.loop-day-preserved-then-is_trading_day
-loop-day-preserved-then-is_trading_day c =
     let i = c.loop-day.invariant in
-    let first = c.in-Some.ensures.steps in
-    record {
-      can = i.can;
-      ends = i.ends;
-      below = omega (arith, ap length first, i.below);
-      counted = i.counted ∙ count-one (is_trading_day c.args.market) _ _ _ _ first (sym c.is_trading_day-in-loop-day.ensures ∙ c.if-is_trading_day.true);
-    }
+    let n = c.loop-day.day.number in
+    let flag = c.from-count.ensures ∙ ap from_bool c.is_trading_day.ensures in
+    let step = count-first trades n (days n last) (days (n + 1) last) (day-first n last n i.in-range refl) in
+    let end = ap length (ap (filter trades) (days-none (n + 1) last (omega (arith, c.if-day-last.true))) ∙ filter_none trades) in
+    omega (arith, i.counted, step, flag, end)
 
 pub loop-day-preserved : goal.loop-day-preserved
 loop-day-preserved c =
-    let i = c.loop-day.invariant in
-    let first = c.in-Some.ensures.steps in
-    record {
-      can = i.can;
-      ends = i.ends;
-      below = omega (arith, ap length first, i.below);
-      counted = i.counted ∙ count-passed (is_trading_day c.args.market) _ _ _ _ first (sym c.is_trading_day-in-loop-day.ensures ∙ c.if-is_trading_day.false);
-    }
-
-pub returns : goal.returns
-returns c =
     let trades = is_trading_day c.args.market in
-    omega (arith, c.loop-day.invariant.counted, ap length (ap (filter trades) c.in-None.ensures.steps.0 ∙ filter_none trades))
+    let last = c.args.last in
+    let i = c.loop-day.invariant in
+    let n = c.loop-day.day.number in
+    let flag = c.from-count.ensures ∙ ap from_bool c.is_trading_day.ensures in
+    let first = day-first n last n i.in-range refl in
+    let step = count-first trades n (days n last) (days (n + 1) last) first in
+    let rest : days (n + 1) last ≡ days c.next_day-day.result.number last = ap (λ (k : ℕ). days k last) (sym c.next_day-day.ensures) in
+    record {
+      in-range = omega (arith, i.in-range, c.if-day-last.false, c.next_day-day.ensures);
+      below = omega (arith, i.below, ap length first, ap length rest, flag, flag-high (trades n));
+      counted = omega (arith, i.counted, step, flag, ap (λ (l : List ℕ). length (filter trades l)) rest);
+    }
