@@ -8,30 +8,30 @@ ghost use Rattle.ranges.specs.Ranges.{count_trading_days};
 ghost use Rattle.trading_days.specs.Month.{month_list};
 
 use gregorian::Date;
-use gregorian::days::CalendarDay;
+use gregorian::days::{CalendarDay, date_after};
 use markets::is_trading_day;
 
 // How many days a month has at most.
 pub const LONGEST_MONTH: usize = 31;
 
 // [count]: from the first day to the last, both included; 0 if the last is before the first. By hand, as a `for` over the days took 1.08
-// of the instructions and `filter` with `count` as many.
+// of the instructions, and so did `filter` with `count`.
 pub fn count(market: u32, first: CalendarDay, last: u32) -> u32
     requires { last ≤ last_day }
     ensures { result ≡ count_trading_days (is_trading_day market) first.number last }
 {
-    if last < first.number {
-        return 0;
-    }
     let mut count = 0;
-    let mut day = first;
-    loop {
-        count += u32::from(is_trading_day(market, day));
-        if day.number == last {
-            return count;
+    let mut number = first.number;
+    let mut date = first.date;
+    while number <= last {
+        let day = CalendarDay { number, date };
+        if is_trading_day(market, day) {
+            count += 1;
         }
-        day = day.next_day();
+        number += 1;
+        date = date_after(date);
     }
+    count
 }
 
 // [month-list]: how many days of the month trade. The first so many bytes are then these days, by their numbers in the month. Each day

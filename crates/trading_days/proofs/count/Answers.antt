@@ -1,47 +1,57 @@
 -- `trading_days::count` meets its contract: each turn of the loop is one day of the count.
-use Rattle.std.proofs.Common.{ℕ, ◌≡◌, ◌+◌, List, length, ap, sym, refl, ◌∙◌, arith}
+use Rattle.std.proofs.Common.{◌≡◌, ◌+◌, length, ap, sym, refl, ◌∙◌, arith}
 use Rattle.std.specs.Int.{from_bool}
+use Rattle.gregorian.specs.declared.days.CalendarDay.{CalendarDay}
+use Rattle.gregorian.proofs.DaySteps.{is-date-of, after_same}
 use Rattle.markets.specs.Markets.{is_trading_day}
 use Rattle.ranges.specs.Ranges.{days, filter}
 use Rattle.ranges.proofs.Lists.{days_length, day-first, days-none, filter_none}
-use Rattle.ranges.proofs.Counts.{counted, count_none, count-first, flag-high}
+use Rattle.ranges.proofs.Counts.{counted, count-first, flag-high}
 use Rattle.trading_days.proofs.count.Goals as goal
+use Rattle.trading_days.proofs.count.Goals.{then-is_trading_day, else-is_trading_day}
 
-pub returns-then-last-first : goal.returns-then-last-first
-returns-then-last-first c = sym (count_none (is_trading_day c.args.market) c.args.first.number c.args.last (omega arith))
-
-pub loop-day-init : goal.loop-day-init
-loop-day-init c =
-    let n = c.args.first.number in
+pub loop-number-init : goal.loop-number-init
+loop-number-init c =
+    let first = c.args.first in
     record {
-      in-range = omega arith;
-      below = omega (arith, days_length n c.args.last, c.args.first.low, c.requires);
-      counted = omega (arith, counted (is_trading_day c.args.market) n c.args.last);
+      low = first.low;
+      same = first.same;
+      last_in = c.requires;
+      below = omega (arith, days_length first.number c.args.last, first.low, c.requires);
+      counted = omega (arith, counted (is_trading_day c.args.market) first.number c.args.last);
     }
 
-pub returns-then-day-last : goal.returns-then-day-last
-returns-then-day-last c =
-    let trades = is_trading_day c.args.market in
-    let last = c.args.last in
-    let i = c.loop-day.invariant in
-    let n = c.loop-day.day.number in
-    let flag = c.from-count.ensures ∙ ap from_bool c.is_trading_day.ensures in
-    let step = count-first trades n (days n last) (days (n + 1) last) (day-first n last n i.in-range refl) in
-    let end = ap length (ap (filter trades) (days-none (n + 1) last (omega (arith, c.if-day-last.true))) ∙ filter_none trades) in
-    omega (arith, i.counted, step, flag, end)
+pub date_after-date-requires : goal.date_after-date-requires
+date_after-date-requires c =
+    let i = c.loop-number.invariant in
+    let day : CalendarDay = record { number = c.loop-number.number; date = c.loop-number.date; low = i.low; high = omega (arith, i.last_in); same = i.same } in
+    is-date-of day
 
-pub loop-day-preserved : goal.loop-day-preserved
-loop-day-preserved c =
+pub loop-number-preserved : goal.loop-number-preserved
+loop-number-preserved c =
     let trades = is_trading_day c.args.market in
     let last = c.args.last in
-    let i = c.loop-day.invariant in
-    let n = c.loop-day.day.number in
-    let flag = c.from-count.ensures ∙ ap from_bool c.is_trading_day.ensures in
-    let first = day-first n last n i.in-range refl in
+    let i = c.loop-number.invariant in
+    let n = c.loop-number.number in
+    let asked = sym c.is_trading_day.ensures in
+    let more : c.if-is_trading_day.count ≡ c.loop-number.count + from_bool (trades n) = elim c.if-is_trading_day.branch [
+      | then-is_trading_day w ↦ omega (arith, w.count-is, ap from_bool (asked ∙ w.if-is_trading_day.true))
+      | else-is_trading_day w ↦ omega (arith, w.count-is, ap from_bool (asked ∙ w.if-is_trading_day.false))
+    ] in
+    let day : CalendarDay = record { number = n; date = c.loop-number.date; low = i.low; high = omega (arith, i.last_in); same = i.same } in
+    let first = day-first n last n (omega arith) refl in
     let step = count-first trades n (days n last) (days (n + 1) last) first in
-    let rest : days (n + 1) last ≡ days c.next_day-day.result.number last = ap (λ (k : ℕ). days k last) (sym c.next_day-day.ensures) in
     record {
-      in-range = omega (arith, i.in-range, c.if-day-last.false, c.next_day-day.ensures);
-      below = omega (arith, i.below, ap length first, ap length rest, flag, flag-high (trades n));
-      counted = omega (arith, i.counted, step, flag, ap (λ (l : List ℕ). length (filter trades l)) rest);
+      low = omega arith;
+      same = c.date_after-date.ensures ∙ after_same day;
+      last_in = i.last_in;
+      below = omega (arith, i.below, ap length first, more, flag-high (trades n));
+      counted = omega (arith, i.counted, step, more);
     }
+
+pub returns : goal.returns
+returns c =
+    let trades = is_trading_day c.args.market in
+    let i = c.loop-number.invariant in
+    let end = ap length (ap (filter trades) (days-none c.loop-number.number c.args.last (omega arith)) ∙ filter_none trades) in
+    omega (arith, i.counted, end)
