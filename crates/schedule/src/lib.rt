@@ -148,8 +148,8 @@ pub fn is_market_open_at(market: u32, time: u32) -> bool
     }
 }
 
-// [trading-hours]: a code that is no market's has the hours 0 to 0. Of a date and no `CalendarDay`, here and in `us`, as the hours of LSE, TSE
-// and TSX ask for no day number.
+// [trading-hours]: a code that is no market's has the hours 0 to 0. Of a date and no `CalendarDay`, here and in `us`, as the hours of LSE,
+// TSE and TSX ask for no day number.
 pub fn trading_hours(market: u32, date: Date) -> TradingHours
     requires { is_date_of date ≡ true }
     ensures { result ≡ trading_hours market date }
