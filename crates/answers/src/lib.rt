@@ -27,6 +27,7 @@ pub struct OptionalDate {
     pub date: Date,
 }
 
+// Put together here and in the two functions below, each of which finds a date in a way of its own; none has an `Option<Date>` to convert.
 const NO_OPTIONAL_DATE: OptionalDate = OptionalDate {
     found: 0,
     date: NO_DATE,
@@ -79,7 +80,7 @@ pub struct BoolAnswer {
     pub date: Date,
 }
 
-// [host-answers]: yes is 1 and no is 0.
+// [host-answers]: yes is 1 and no is 0. A function, since its contract is the definition by which claims speak of the struct.
 #[tactic(auto, unfolding(crate::specs::Answers::flag_of))]
 fn flag(yes: bool) -> u32
     ensures { result ≡ flag_of yes }
@@ -87,6 +88,7 @@ fn flag(yes: bool) -> u32
     u32::from(yes)
 }
 
+// Each answer has its own fields beside those of an error, so the arm of `Err` stands in each `from`, with what is common in `ErrorFields`.
 impl From<Result<bool, CalendarError>> for BoolAnswer {
     ghost from_gives = { λ answer struct. struct ≡ bool_answer answer };
 

@@ -47,7 +47,8 @@ impl From<Result<Slicing, CalendarError>> for SliceAnswer {
     }
 }
 
-// [slice-order], by what the count call returned: its error, with what comes with it, or the order over the days counted.
+// [slice-order], by what the count call returned: its error, with what comes with it, or the order over the days counted. The struct is
+// C's, and its error a number: slice_order_answer of specs/ speaks of it, whatever its fields.
 #[tactic(auto, unfolding(crate::specs::SliceCall::slice_order_answer, crate::specs::SliceCall::slice_order_buffer))]
 pub fn slice_order_answer(quantity: u32, counted: CountAnswer, out: &mut [u32]) -> SliceAnswer
     ensures { (result ≡ slice_order_answer quantity counted out.old)

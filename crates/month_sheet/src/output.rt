@@ -11,7 +11,8 @@ use trading_calendar::sheets::tc_month_sheet;
 pub const OUTPUT_LENGTH: usize = 136;
 
 // [sheet-program]: writes what is printed for the text to the start of the buffer, and answers how many bytes that is. With an error the
-// call has written nothing. A number and no slice, since the clause speaks of the whole buffer, which a slice would still borrow.
+// call has written nothing. A number and no slice, since the clause speaks of the whole buffer, which a slice would still borrow;
+// the error is a number, as the struct is C's, and the count a `usize` by `as`, which `From` does not make.
 fn of_text(text: &[u8], out: &mut [u8; OUTPUT_LENGTH]) -> usize
     ensures { (result ≡ length (printed text.now))
         × (out.new ≡ overwrite (printed text.now) out.old) }

@@ -7,11 +7,11 @@ ghost use Rattle.range_calls.specs.RangeCalls.{trading_days_in_month_result, tra
 
 use checks::{checked_month, checked_range, checked_room};
 use error::CalendarError;
-use gregorian::days::CalendarDay;
 use gregorian::{Date, day_number, is_date};
 use trading_days::LONGEST_MONTH;
 
-// The list of a month that is past its check: how many days were written, or error 9.
+// The list of a month that is past its check: how many days were written, or error 9. Market, year and month come from C as numbers, which
+// nothing ties together before the check; the bytes are of the longest month, as trading_days::month_days says.
 fn write_days(market: u32, year: u32, month: u32, out: &mut [u8]) -> Result<u32, CalendarError>
     requires { is_date year month 1 ≡ true }
     ensures { (result ≡ checked_room (length (month_list market year month)) (length out.old))
@@ -51,7 +51,7 @@ pub fn count_trading_days(market: u32, start: Date, end: Date) -> Result<u32, Ca
         return Err(CalendarError::UnknownMarket);
     }
     checked_range(starts, ends, start, end)?;
-    let first = CalendarDay::new(start);
+    let first = day_number(start.year, start.month, start.day);
     let last = day_number(end.year, end.month, end.day);
-    Ok(trading_days::count(market, first, last))
+    Ok(trading_days::count(market, first, start, last))
 }

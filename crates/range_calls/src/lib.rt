@@ -21,7 +21,7 @@ pub struct TradingDay {
     pub outside: bool,
 }
 
-// [distance]
+// [distance]. By hand, as two edits change one direction each.
 #[tactic(auto, unfolding(crate::specs::RangeCalls::distance_of))]
 fn distance(n: u32, m: u32) -> u32
     ensures { result ≡ distance_of n m }

@@ -7,7 +7,7 @@ use answers::counts::CountAnswer;
 const LARGEST_ROOM: usize = 123;
 
 // The answer of a call that is given a buffer with so much room, and all bytes of the buffer after it. None for more room than a row
-// holds.
+// holds. The room becomes a `usize` by `as`, as `From` makes none from a `u32`.
 pub fn with_buffer<F: FnOnce(&mut [u8]) -> CountAnswer>(
     room: u32,
     untouched: u8,

@@ -26,7 +26,7 @@ impl Tally {
         self.not_understood = self.not_understood.saturating_add(1);
     }
 
-    // Counts a row of the kind.
+    // Counts a row of the kind, whose number among the kinds is its place.
     pub fn count_row(&mut self, kind: Kind, is_same: bool) {
         let counts = &mut self.counts[kind as usize];
         counts.compared = counts.compared.saturating_add(1);

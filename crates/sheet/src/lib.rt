@@ -18,7 +18,7 @@ fn write_fitting(sheet: &Sheet, out: &mut [u8]) -> Result<u32, CalendarError>
         × (out.new ≡ final_buffer result (text sheet.now) out.old) }
 {
     let n = checked_room(sheet_length(sheet), out.len())?;
-    write_lines(sheet, out);
+    write_lines(0, sheet, out);
     Ok(n)
 }
 

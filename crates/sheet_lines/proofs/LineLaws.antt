@@ -1,9 +1,11 @@
 -- The laws of lines, and of numbers with commas between.
 -- Assumes nothing.
-use Prim.Native.Nat.{ℕ, ◌+◌, ◌-◌, ◌≤◌, max}
+use Prim.Native.Nat.{ℕ, ◌+◌, ◌-◌, ◌≤◌, ◌<◌, max}
 use mathlib.Core.Path.{◌≡◌, refl, sym, ap, ◌∙◌}
 use mathlib.Core.List.{List, [], ◌∷◌, ◌++◌, append_assoc, append-nil}
 use lib.ListN.{length, get_or, take, drop, length-append}
+use lib.Seq.{drop-cons}
+use native.Mathlib.Numerals.{add-one}
 use native.Mathlib.Omega.{arith}
 use Rattle.buffers.proofs.BufferLaws.{rest-is}
 use Rattle.decimal.specs.Decimal.{decimal}
@@ -11,7 +13,7 @@ use Rattle.request.specs.Text.{ascii, text_of}
 use Rattle.sheet_lines.specs.Sheet.{comma_separated, sheet_lines, sheet_text}
 use Rattle.std.specs.List.{sum_by}
 use Rattle.std.proofs.lemmas.List.Sums.{sum_by-cons}
-use Rattle.sheet_lines.specs.Inner.{request_part, days_part, text}
+use Rattle.sheet_lines.specs.Inner.{lines, sheet_line, sheet_from}
 use Rattle.sheet_lines.specs.declared.Sheet.{Sheet}
 
 -- ---- numbers with commas between, and a line feed: none, one, and more
@@ -59,19 +61,18 @@ numbers-length (n ∷ m ∷ ns) =
 
 -- ---- the sheet
 
--- five lines of names and what follows them, in two parts
-regroup : (m market y year o month c count d days feed : List ℕ)
-    → m ++ market ++ feed ++ (y ++ year ++ feed ++ (o ++ month ++ feed ++ (c ++ count ++ feed ++ (d ++ days ++ feed ++ []))))
-    ≡ m ++ (market ++ feed) ++ (y ++ (year ++ feed)) ++ (o ++ (month ++ feed)) ++ (c ++ (count ++ feed) ++ d ++ (days ++ feed))
-regroup m market y year o month c count d days feed = simp (append_assoc, append-nil)
+-- the text from line k on is that line, and the text from the next one on
+text-from : (lines : List (List ℕ)) (k : ℕ) → k < length lines → text_of (drop k lines) ≡ get_or lines k [] ++ ascii "\n" ++ text_of (drop (k + 1) lines)
+unfolding text_of
+text-from lines k h = ap text_of (drop-cons lines k [] h) ∙ ap (λ (n : ℕ). get_or lines k [] ++ ascii "\n" ++ text_of (drop n lines)) (sym (add-one k))
 
-pub text-parts : (sheet : Sheet) → text sheet ≡ request_part sheet.request ++ days_part sheet.days.now
+pub sheet-from : (k : ℕ) (sheet : Sheet) → k < 4 → sheet_from k sheet ≡ sheet_line k sheet ++ sheet_from (k + 1) sheet
+unfolding sheet_lines
+sheet-from k sheet h = text-from (lines sheet) k (omega arith)
+
+pub sheet-last : (k : ℕ) (sheet : Sheet) → k ≡ 4 → sheet_from k sheet ≡ ascii "days=" ++ numbers_line sheet.days.now
 unfolding sheet_lines text_of
-text-parts sheet =
-    let r = sheet.request in
-    let days = sheet.days.now in
-    regroup (ascii "market=") (decimal r.market) (ascii "year=") (decimal r.year) (ascii "month=") (decimal r.month)
-    (ascii "count=") (decimal (length days)) (ascii "days=") (comma_separated days) (ascii "\n")
+sheet-last k sheet e = ap (λ (i : ℕ). sheet_from i sheet) e ∙ append-nil (ascii "days=" ++ numbers_line sheet.days.now)
 
 -- its names have 29 bytes, and the first four line feeds come to them
 pub sheet-lengths : (market year month : ℕ) (days : List ℕ) → length (sheet_text market year month days)

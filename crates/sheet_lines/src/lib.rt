@@ -1,4 +1,5 @@
-// The text of the month sheet: how many bytes it has, and its writer.
+// The text of the month sheet: how many bytes it has, and its writer. The count of days becomes a `u32` by `as`, as `From` makes none from
+// a `usize`.
 #![tactic(auto)]
 
 ghost use Rattle.std.specs.Prelude.{◌≤◌, length};

@@ -1,13 +1,12 @@
 // The writer of the sheet [sheet-output]. All functions answer how many bytes they wrote.
-ghost use Rattle.std.specs.Prelude.{◌≡◌, [], ◌∷◌, ◌++◌, ◌≤◌, length};
+ghost use Rattle.std.specs.Prelude.{◌≡◌, [], ◌∷◌, ◌++◌, ◌≤◌, ◌<◌, length};
 ghost use Rattle.buffers.specs.Buffers.{overwrite};
 ghost use Rattle.decimal.specs.Decimal.{decimal};
 ghost use Rattle.request.specs.Text.{ascii};
 ghost use Rattle.sheet_lines.specs.Sheet.{comma_separated};
-ghost use Rattle.sheet_lines.specs.Inner.{request_part, days_part, text};
+ghost use Rattle.sheet_lines.specs.Inner.{sheet_line, sheet_from};
 
 use crate::Sheet;
-use request::Request;
 
 // A number, and the byte that ends it.
 fn write_number(number: u32, end: u8, out: &mut [u8]) -> usize
@@ -46,31 +45,38 @@ fn write_numbers(numbers: &[u8], out: &mut [u8]) -> usize
     }
 }
 
-// The first three lines. What is left of the buffer after a line is lent on for the next.
-fn write_request(request: &Request, out: &mut [u8]) -> usize
-    requires { length (request_part request.now) ≤ length out.old }
-    ensures { (result ≡ length (request_part request.now)) × (out.new ≡ overwrite (request_part request.now) out.old) }
+// The last line.
+fn write_days(days: &[u8], out: &mut [u8]) -> usize
+    requires { length (ascii "days=" ++ (comma_separated days.now ++ ascii "\n")) ≤ length out.old }
+    ensures { (result ≡ length (ascii "days=" ++ (comma_separated days.now ++ ascii "\n")))
+        × (out.new ≡ overwrite (ascii "days=" ++ (comma_separated days.now ++ ascii "\n")) out.old) }
 {
-    let market = write_line(b"market=", request.market, out);
-    let year = market + write_line(b"year=", request.year, &mut out[market..]);
-    year + write_line(b"month=", request.month, &mut out[year..])
+    let n = buffers::write(b"days=", out);
+    n + write_numbers(days, &mut out[n..])
 }
 
-// The last two lines.
-fn write_days(sheet: &Sheet, out: &mut [u8]) -> usize
-    requires { length (days_part sheet.now.days.now) ≤ length out.old }
-    ensures { (result ≡ length (days_part sheet.now.days.now)) × (out.new ≡ overwrite (days_part sheet.now.days.now) out.old) }
+// One of the first four lines, by its number.
+fn write_field(line: u32, sheet: &Sheet, out: &mut [u8]) -> usize
+    requires { (line < 4) × (length (sheet_line line sheet.now) ≤ length out.old) }
+    ensures { (result ≡ length (sheet_line line sheet.now)) × (out.new ≡ overwrite (sheet_line line sheet.now) out.old) }
 {
-    let count = write_line(b"count=", sheet.days.len() as u32, out);
-    let name = count + buffers::write(b"days=", &mut out[count..]);
-    name + write_numbers(sheet.days, &mut out[name..])
+    match line {
+        0 => write_line(b"market=", sheet.request.market, out),
+        1 => write_line(b"year=", sheet.request.year, out),
+        2 => write_line(b"month=", sheet.request.month, out),
+        _ => write_line(b"count=", sheet.days.len() as u32, out),
+    }
 }
 
-// [sheet-output]: the five lines.
-pub fn write_lines(sheet: &Sheet, out: &mut [u8]) -> usize
-    requires { length (text sheet.now) ≤ length out.old }
-    ensures { (result ≡ length (text sheet.now)) × (out.new ≡ overwrite (text sheet.now) out.old) }
+// [sheet-output]: the lines from this number on, of which the first has number 0. What is left of the buffer after a line is lent on for
+// the next. By a number, as docs/CLAUSES.md [forms] names this function, which promises the text from each line on.
+pub fn write_lines(line: u32, sheet: &Sheet, out: &mut [u8]) -> usize
+    requires { (line ≤ 4) × (length (sheet_from line sheet.now) ≤ length out.old) }
+    ensures { (result ≡ length (sheet_from line sheet.now)) × (out.new ≡ overwrite (sheet_from line sheet.now) out.old) }
 {
-    let n = write_request(&sheet.request, out);
-    n + write_days(sheet, &mut out[n..])
+    if line == 4 {
+        return write_days(sheet.days, out);
+    }
+    let n = write_field(line, sheet, out);
+    n + write_lines(line + 1, sheet, &mut out[n..])
 }

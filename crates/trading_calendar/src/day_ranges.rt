@@ -16,6 +16,7 @@ pub fn tc_trading_days_in_month(market: u32, year: u32, month: u32, out: &mut [u
 }
 
 // [count]: how many days trade from the start to the end, both included, or the first of errors 8, 5 and 1 that applies.
+// Here, and in the other call of a range, two dates are put together from C's numbers: a function for it would take and give as many.
 pub fn tc_count_trading_days(
     market: u32,
     start_year: u32,

@@ -4,4 +4,4 @@ use Rattle.checks.proofs.CheckLaws.{room-checked}
 use Rattle.sheet.proofs.write_fitting.Goals as goal
 
 pub write_lines-requires : goal.write_lines-requires
-write_lines-requires c = omega (arith, (room-checked _ _ _ (sym c.in_ok-n.ensures)).1)
+write_lines-requires c = (omega arith, omega (arith, (room-checked _ _ _ (sym c.in_ok-n.ensures)).1))

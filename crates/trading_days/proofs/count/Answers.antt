@@ -14,11 +14,11 @@ pub loop-number-init : goal.loop-number-init
 loop-number-init c =
     let first = c.args.first in
     record {
-      low = first.low;
-      same = first.same;
-      last_in = c.requires;
-      below = omega (arith, days_length first.number c.args.last, first.low, c.requires);
-      counted = omega (arith, counted (is_trading_day c.args.market) first.number c.args.last);
+      low = c.requires.0;
+      same = c.requires.1;
+      last_in = c.requires.2;
+      below = omega (arith, days_length first c.args.last, c.requires.0, c.requires.2);
+      counted = omega (arith, counted (is_trading_day c.args.market) first c.args.last);
     }
 
 pub date_after-date-requires : goal.date_after-date-requires

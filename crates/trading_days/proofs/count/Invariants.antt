@@ -11,7 +11,7 @@ invariant-loop-number l = let left = days l.number l.last in record {
   same : l.date ≡ date_of l.number;
   last_in : l.last ≤ last_day;
   below : l.count + length left ≤ last_day;
-  counted : count_trading_days (is_trading_day l.market) l.fn.first.number l.last ≡ l.count + length (filter (is_trading_day l.market) left);
+  counted : count_trading_days (is_trading_day l.market) l.fn.first l.last ≡ l.count + length (filter (is_trading_day l.market) left);
 }
 
 abbrev pub decreases-loop-number : goal.decreases-loop-number
