@@ -82,16 +82,21 @@ numbered y m d n h e =
     let r = number-range y m d h in
     (omega (arith, e, r.0), omega (arith, e, r.1), by_number y m d n (is-date y m d h).exists (sym e))
 
+-- day n has the date t; its years go on past those of a `CalendarDay`
+module _ (n : ℕ) (t : Date) (low : 1 ≤ n) (same : t ≡ date_of n) where
+  pub number_same : number t ≡ n
+  number_same = ap number same ∙ number-of-date n low
+
+  pub after_same : day_after t ≡ date_of (n + 1)
+  unfolding date_of
+  after_same = let e : suc n ≡ n + 1 = omega arith in ap day_after same ∙ ap date_of e
+
+  pub before_same : day_before t ≡ date_of (n - 1)
+  before_same = ap (λ (i : ℕ). date_of (i - 1)) number_same
+
 module _ (day : CalendarDay) where
   pub number_is : number day.date ≡ day.number
-  number_is = ap number day.same ∙ number-of-date day.number day.low
+  number_is = number_same day.number day.date day.low day.same
 
   pub is-date-of : is_date_of day.date ≡ true
   is-date-of = ap is_date_of day.same ∙ date-of-is day.number day.low day.high
-
-  pub after_same : day_after day.date ≡ date_of (day.number + 1)
-  unfolding date_of
-  after_same = let e : suc day.number ≡ day.number + 1 = omega arith in ap day_after day.same ∙ ap date_of e
-
-  pub before_same : day_before day.date ≡ date_of (day.number - 1)
-  before_same = ap (λ (n : ℕ). date_of (n - 1)) number_is

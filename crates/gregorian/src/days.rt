@@ -24,14 +24,19 @@ impl CalendarDay {
         }
     }
 
+    // The number and the date of the day after. Of 9999-12-31 too, whose day after is no day of these years.
+    pub fn day_after(self) -> (u32, Date)
+        ensures { (result.0 ≡ self.number + 1) × (result.1 ≡ date_of (self.number + 1)) }
+    {
+        (self.number + 1, date_after(self.date))
+    }
+
     pub fn next_day(self) -> Self
         requires { self.number + 1 ≤ last_day }
         ensures { result.number ≡ self.number + 1 }
     {
-        CalendarDay {
-            number: self.number + 1,
-            date: date_after(self.date),
-        }
+        let (number, date) = self.day_after();
+        CalendarDay { number, date }
     }
 
     pub fn previous_day(self) -> Self
@@ -53,7 +58,6 @@ fn month_goes_on(date: Date) -> bool
     date.day < 28 || date.day < days_in_month(date.year, date.month)
 }
 
-// Also of 9999-12-31, whose day after no search asks for.
 pub fn date_after(date: Date) -> Date
     requires { is_date_of date ≡ true }
     ensures { result ≡ day_after date }

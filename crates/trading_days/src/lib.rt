@@ -8,7 +8,7 @@ ghost use Rattle.ranges.specs.Ranges.{count_trading_days};
 ghost use Rattle.trading_days.specs.Month.{month_list};
 
 use gregorian::Date;
-use gregorian::days::{CalendarDay, date_after};
+use gregorian::days::CalendarDay;
 use markets::is_trading_day;
 
 // How many days a month has at most.
@@ -29,8 +29,9 @@ pub fn count(market: u32, first: u32, first_date: Date, last: u32) -> u32
         if is_trading_day(market, day) {
             count += 1;
         }
-        number += 1;
-        date = date_after(date);
+        let next = day.day_after();
+        number = next.0;
+        date = next.1;
     }
     count
 }

@@ -1,8 +1,7 @@
 -- `trading_days::count` meets its contract: each turn of the loop is one day of the count.
-use Rattle.std.proofs.Common.{◌≡◌, ◌+◌, length, ap, sym, refl, ◌∙◌, arith}
+use Rattle.std.proofs.Common.{ℕ, ◌∷◌, ◌≡◌, ◌+◌, length, ap, sym, refl, ◌∙◌, arith}
 use Rattle.std.specs.Int.{from_bool}
-use Rattle.gregorian.specs.declared.days.CalendarDay.{CalendarDay}
-use Rattle.gregorian.proofs.DaySteps.{is-date-of, after_same}
+use Rattle.gregorian.specs.Calendar.{date_of}
 use Rattle.markets.specs.Markets.{is_trading_day}
 use Rattle.ranges.specs.Ranges.{days, filter}
 use Rattle.ranges.proofs.Lists.{days_length, day-first, days-none, filter_none}
@@ -21,12 +20,6 @@ loop-number-init c =
       counted = omega (arith, counted (is_trading_day c.args.market) first c.args.last);
     }
 
-pub date_after-date-requires : goal.date_after-date-requires
-date_after-date-requires c =
-    let i = c.loop-number.invariant in
-    let day : CalendarDay = record { number = c.loop-number.number; date = c.loop-number.date; low = i.low; high = omega (arith, i.last_in); same = i.same } in
-    is-date-of day
-
 pub loop-number-preserved : goal.loop-number-preserved
 loop-number-preserved c =
     let trades = is_trading_day c.args.market in
@@ -38,12 +31,13 @@ loop-number-preserved c =
       | then-is_trading_day w ↦ omega (arith, w.count-is, ap from_bool (asked ∙ w.if-is_trading_day.true))
       | else-is_trading_day w ↦ omega (arith, w.count-is, ap from_bool (asked ∙ w.if-is_trading_day.false))
     ] in
-    let day : CalendarDay = record { number = n; date = c.loop-number.date; low = i.low; high = omega (arith, i.last_in); same = i.same } in
-    let first = day-first n last n (omega arith) refl in
-    let step = count-first trades n (days n last) (days (n + 1) last) first in
+    let after = c.day_after-next.ensures in
+    let m = c.day_after-next.result.0 in
+    let first = day-first n last n (omega arith) refl ∙ ap (λ (k : ℕ). n ∷ days k last) (sym after.0) in
+    let step = count-first trades n (days n last) (days m last) first in
     record {
-      low = omega arith;
-      same = c.date_after-date.ensures ∙ after_same day;
+      low = omega (arith, after.0);
+      same = after.1 ∙ ap date_of (sym after.0);
       last_in = i.last_in;
       below = omega (arith, i.below, ap length first, more, flag-high (trades n));
       counted = omega (arith, i.counted, step, more);

@@ -1,12 +1,10 @@
--- `gregorian::days::CalendarDay::next_day` meets its contract: the number and the date go on together.
+-- `gregorian::days::CalendarDay::next_day` meets its contract: the day after is a day of the years.
 use native.Mathlib.Omega.{arith}
-use mathlib.Core.Path.{◌∙◌}
-use Rattle.gregorian.proofs.DaySteps.{is-date-of, after_same}
+use mathlib.Core.Path.{ap, sym, ◌∙◌}
+use Rattle.gregorian.specs.Calendar.{date_of}
 use Rattle.gregorian.proofs.days.CalendarDay.next_day.Goals as goal
-
-pub date_after-requires : goal.date_after-requires
-date_after-requires c = is-date-of c.args.self
 
 pub invariant_of-result : goal.invariant_of-result
 invariant_of-result c =
-    record { low = omega arith; high = c.requires; same = c.date_after.ensures ∙ after_same c.args.self }
+    let after = c.day_after-number.ensures in
+    record { low = omega (arith, after.0); high = omega (arith, after.0, c.requires); same = after.1 ∙ ap date_of (sym after.0) }

@@ -12,4 +12,4 @@ date_before-requires c =
 pub invariant_of-result : goal.invariant_of-result
 invariant_of-result c =
     let day = c.args.self in
-    record { low = omega arith; high = omega (arith, day.high); same = c.date_before.ensures ∙ before_same day }
+    record { low = omega arith; high = omega (arith, day.high); same = c.date_before.ensures ∙ before_same day.number day.date day.low day.same }
