@@ -8,9 +8,10 @@ use lib.Dec.{ltb, leb, lit≤}
 use native.Mathlib.Omega.{arith}
 use borrow.Author.Tests.{lt-ltb, le-ltb, ltb-false, leb-true, le-leb, not-false}
 use Rattle.gregorian.specs.declared.Date.{Date}
-use Rattle.gregorian.specs.Calendar.{last_day, is_date, date, day_number, is_date_of, number}
+use Rattle.gregorian.specs.Calendar.{last_day, is_date, date, day_number, is_date_of, date_of, number}
 use Rattle.gregorian.proofs.Tests.{and_left, and_right}
 use Rattle.gregorian.proofs.Laws.{number-range, date-by, month-low}
+use Rattle.gregorian.proofs.DaySteps.{numbered}
 use Rattle.markets.specs.Markets.{is_market}
 use Rattle.markets.specs.Years.{min_year, max_year, is_supported}
 use Rattle.markets.proofs.YearLaws.{supported-years}
@@ -33,6 +34,7 @@ pub record CheckedDay (market year month day n : ℕ) : Type 0 where
   pub known : is_market market ≡ true
   pub is-date : is_date year month day ≡ true
   pub number_is : n ≡ day_number year month day
+  pub same : (1 ≤ n) × (n ≤ last_day) × (date year month day ≡ date_of n)
 
 -- and of a supported year, with a time in range
 pub record SupportedDay (market year month day : ℕ) (time_in_range : Bool) (n : ℕ) : Type 0 where
@@ -60,6 +62,7 @@ module _ (market year month day : ℕ) where
         known = not-false _ past₈.0;
         is-date = d;
         number_is = e;
+        same = numbered year month day n d e;
       }
 
   -- what follows the same checks for a supported day
@@ -123,7 +126,7 @@ pub record CheckedRange (start end : Date) (a b : ℕ) : Type 0 where
   pub numbers : (a ≡ number start) × (b ≡ number end)
   pub start-year : min_year ≤ start.year
   pub end-year : end.year ≤ max_year
-  pub low : 1 ≤ a
+  pub same : (1 ≤ a) × (start ≡ date_of a)
   pub in-years : (a ≤ last_day) × (b ≤ last_day)
 
 module _ (start end : Date) where
@@ -148,14 +151,15 @@ module _ (start end : Date) where
       let numbers : ◌≡◌ {A = ℕ × ℕ} (number start, number end) (a, b) = cc past₁.1 in
       let i : a ≡ number start = sym (ap (λ (n : ℕ × ℕ). n.0) numbers) in
       let k : b ≡ number end = sym (ap (λ (n : ℕ × ℕ). n.1) numbers) in
+      let first = numbered start.year start.month start.day a s i in
       record {
         start-date = s;
         end-date = e;
         numbers = (i, k);
         start-year = ltb-false start.year min_year years.0;
         end-year = ltb-false max_year end.year years.1;
-        low = omega (arith, i, number-range start.year start.month start.day s);
-        in-years = (omega (arith, i, number-range start.year start.month start.day s), omega (arith, k, number-range end.year end.month end.day e));
+        same = (first.0, first.2);
+        in-years = (first.1, omega (arith, k, number-range end.year end.month end.day e));
       }
 
   -- by the check without the day numbers: these are the numbers of the dates; or its error

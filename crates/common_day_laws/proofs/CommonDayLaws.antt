@@ -77,7 +77,7 @@ module _ (markets : ℕ) (start end : Date) (r : OptionalDateAnswer) (s : Search
 
   day-in-range : (n : ℕ) → s.a ≤ n → n ≤ s.b → InRange start end (date_of n)
   day-in-range n l h =
-      let low = s.range.low in
+      let low = s.range.same.0 in
       let same = number-of-date n (omega (arith, low)) in
       record {
         is-date = date-of-is n (omega (arith, low)) (omega (arith, s.range.in-years));
@@ -112,7 +112,7 @@ module _ (markets : ℕ) (start end : Date) (r : OptionalDateAnswer) (s : Search
   common-date : (n : ℕ) → SomeTradingDay (is_common_trading_day markets) s.a s.b (Some n) → r ≡ some_date (date_of n) → IsCommonDate markets start end r
   common-date n (l, h, e) q =
       let i = day-in-range n l h in
-      let same = number-of-date n (omega (arith, s.range.low)) in
+      let same = number-of-date n (omega (arith, s.range.same.0)) in
       (date_of n, q, i, all-trade (date_of n) i (ap (is_common_trading_day markets) same ∙ e))
 
   is-answered : IsCommonDate markets start end r ⊎ IsNone markets start end r
@@ -256,7 +256,7 @@ last-is-right markets start end = by (checked_set_range markets start end) refl
     by : (c : Result (ℕ × ℕ) CalendarError) → checked_set_range markets start end ≡ c
         → CommonDayPast markets c (optional_date_answer (result_and_then c (λ (a, b). found_on (previous_trading_day (is_common_trading_day markets) a (suc b)))))
     by (Ok (a, b)) q =
-        let low = (range-checked start end a b (set-checked markets start end a b q).1).low in
+        let low = (range-checked start end a b (set-checked markets start end a b q).1).same.0 in
         (previous_trading_day (is_common_trading_day markets) a (suc b), last_some (is_common_trading_day markets) a b low, refl)
     by (Err e) q = refl
 
