@@ -3,18 +3,18 @@
 use Rattle.std.proofs.Common.{Option, Some, None, option_map}
 use Prim.Native.Nat.{ℕ, ◌+◌, ◌-◌, ◌≤◌}
 use mathlib.Core.Path.{◌≡◌, refl, ap, sym, ◌∙◌}
-use mathlib.Core.Bool.{Bool, true, false, cond, ◌&&◌, ◌||◌}
+use mathlib.Core.Bool.{Bool, true, false, cond, not, ◌&&◌, ◌||◌}
 use mathlib.Core.List.{List, [], ◌∷◌}
 use lib.Dec.{leb, eqb}
 use lib.IntN.{ℤ}
 use native.Mathlib.Omega.{arith}
 use native.Mathlib.Decide.{dec_le, dec_lt}
-use borrow.Author.Tests.{leb-true, eqb-true, eq-eqb, le-leb, lt-leb}
+use borrow.Author.Tests.{leb-true, eqb-true, eq-eqb, ne_eqb, le-leb, lt-leb, not-true}
 use Rattle.gregorian.specs.Calendar.{number, month_length, total, day_number, last_year, is_date, date}
 use Rattle.gregorian.specs.declared.Date.{Date}
 use Rattle.gregorian.specs.declared.days.CalendarDay.{CalendarDay}
 use Rattle.gregorian.specs.Inner.{Exists}
-use Rattle.gregorian.proofs.Tests.{and_left, and_right}
+use Rattle.gregorian.proofs.Tests.{and_left, and_right, every, every-at}
 use Rattle.gregorian.proofs.Laws.{days-on, is-date, by_number}
 use Rattle.gregorian.proofs.DaySteps.{is-date-of, number_is}
 use Rattle.utils.specs.Weekday.{nth_weekday_of_month}
@@ -22,7 +22,7 @@ use Rattle.utils.proofs.WeekdayLaws.{nth-weekday}
 use Rattle.utils.specs.Easter.{easter, calculate_easter, calculate_good_friday, calculate_easter_monday}
 use Rattle.utils.proofs.EasterLaws.{easter-range, easter-found}
 use Rattle.rule_days.specs.Days.{is_day, adjust_for_weekend}
-use Rattle.rule_days.specs.Inner.{Rule, is_one_of, any_from, is_between, is_around_easter, every_year_has}
+use Rattle.rule_days.specs.Inner.{Rule, is_one_of, any_from, any_of, is_between, is_around_easter, every_year_has}
 use Rattle.rule_days.proofs.DayLaws.{or-false, not-between, not-observed, every-year-date}
 
 -- ---- all rules of a year, and those of a month
@@ -121,6 +121,9 @@ module _ (day : CalendarDay) where
   pub year-range : (1 ≤ y) × (y ≤ last_year)
   year-range = let d = is-date _ _ _ (is-date-of day) in (d.exists.y-low, d.y-high)
 
+  pub month-range : (1 ≤ month) × (month ≤ 12)
+  month-range = let d = is-date _ _ _ (is-date-of day) in (d.exists.m-low, d.exists.m-high)
+
   ends : (m a b : ℕ) → day_number y m b + a ≡ day_number y m a + b
   unfolding day_number
   ends m a b = omega arith
@@ -204,3 +207,34 @@ module _ (day : CalendarDay) where
   pub away-from-easter : (t : Bool) → (t ≡ true → is_around_easter day.date ≡ true) → is_around_easter day.date ≡ false → false ≡ t
   away-from-easter true k e = sym e ∙ k refl
   away-from-easter false k e = refl
+
+-- ---- the months without a holiday
+
+-- none of the rules can fall in the month
+abbrev pub none_in : ℕ → List Rule → Bool
+none_in month [] = true
+none_in month (r ∷ rs) = not (is_one_of r.months month) && none_in month rs
+
+none-asked : (month : ℕ) (before : Bool) (rules : List Rule) → none_in month rules ≡ true → any_from month before rules ≡ before
+none-asked month before [] e = refl
+none-asked month before (r ∷ rs) e =
+    let out = not-true (is_one_of r.months month) (and_left (not (is_one_of r.months month)) _ e) in
+    ap (λ (b : Bool). any_from month (cond b (before || r.test) before) rs) out ∙ none-asked month before rs (and_right (not (is_one_of r.months month)) _ e)
+
+-- what the last arm of a `match` knows: the month is none of the keys, the last one first
+abbrev pub Refuted : List ℕ → ℕ → Type 0
+Refuted [] month = Unit {0}
+Refuted (k ∷ ks) month = Refuted ks month × (month ≡ k → ⊥)
+
+not_key : (keys : List ℕ) (month : ℕ) → Refuted keys month → is_one_of keys month ≡ false
+not_key [] month r = refl
+not_key (k ∷ ks) month r = simp (ne_eqb month k r.1, not_key ks month r.0)
+
+-- every month has a key, or no rule that can fall in it
+abbrev pub keys_cover : List ℕ → List Rule → ℕ → Bool
+keys_cover keys rules month = is_one_of keys month || none_in month rules
+
+pub no-holiday : (keys : List ℕ) (rules : List Rule) (month : ℕ) → every (keys_cover keys rules) 12 ≡ true → (1 ≤ month) × (month ≤ 12) → Refuted keys month → false ≡ any_of month rules
+no-holiday keys rules month e h r =
+    let covered = every-at (keys_cover keys rules) 12 e month h.0 h.1 in
+    sym (none-asked month false rules (ap (λ (b : Bool). b || none_in month rules) (sym (not_key keys month r)) ∙ covered))
